@@ -1,0 +1,9 @@
+pub mod Digits
+pub mod Members
+pub mod Sameness
+pub mod Shifts
+pub mod Values
+pub mod Counting
+pub mod Smallest
+pub mod Kept
+pub mod Unique

@@ -1,0 +1,132 @@
+-- Laws of the smallest value of a set, and of a set without it. Assumes nothing.
+use mathlib.Core.Path.{_≡_, refl, sym, ap, _∙_, subst}
+use mathlib.Core.Logic.{_↔_, _⊎_, inl, inr, ⊎-elim}
+use mathlib.Core.Bool.{Bool, true, false}
+use mathlib.Core.List.{List, [], _∷_, List·Memᴰ, List·Memᴰ·head, List·Memᴰ·not-nil, List·Memᴰ·cases-cons}
+use Prim.Native.Nat.{ℕ, zero, suc, _+_, _-_, _*_, _/_, _%_, _^_, _≤_, _<_}
+use native.Mathlib.Nat.{le-refl, mod-lt, zero-lt-suc, add-suc, suc-add, add-zero, div-add-mod'}
+use native.Mathlib.Decide.{ℕ-discrete}
+use native.Mathlib.Numerals.{lt-of-le-of-ne}
+use native.Mathlib.Omega.{arith}
+use lib.Arith.{lt-one}
+use lib.Count.{trailingZeros, under}
+use lib.Dec.{T}
+use Rattle.sets.specs.Sets.{member, single, common, complement, inside, listedIf, valuesFrom, values, rising, count, firstOf, smallest, beside, others}
+use Rattle.sets.proofs.Digits.{half-below}
+use Rattle.sets.proofs.Members.{member-empty, member-range, member-single, member-common, member-complement}
+use Rattle.sets.proofs.Sameness.{single-below, inside-iff}
+use Rattle.sets.proofs.Values.{values-step, values-of-zero, member-of-listed, listed-of-member, values-rising, rising-above}
+use Rattle.sets.proofs.Counting.{beside-below, member-beside, count-of-single, count-zero, count-falls, count-part}
+
+two-pos : zero < 2
+two-pos = zero-lt-suc 1
+
+-- ---- the first of the values is one more than the zeros below it
+
+first-listed : (d x t : ℕ) (xs : List ℕ) → d < 2 → (d ≡ 0 → firstOf xs ≡ suc x + t) → firstOf (listedIf d x xs) ≡ x + under d t
+unfolding listedIf firstOf
+first-listed zero x t xs h e = e refl ∙ suc-add x t ∙ sym (add-suc x t)
+first-listed (suc d) x t xs h e = sym (add-zero x)
+
+first-values : (k x m : ℕ) → m < 2 ^ k → (m ≡ 0 → ⊥) → firstOf (valuesFrom k x m) ≡ x + trailingZeros k m
+unfolding trailingZeros
+first-values zero x m h ne = absurd (ne (lt-one h))
+first-values (suc k) x m h ne =
+    ap firstOf (values-step k x m)
+    ∙ first-listed (m % 2) x (trailingZeros k (m / 2)) (valuesFrom k (suc x) (m / 2)) (mod-lt m two-pos)
+    (λ z. first-values k (suc x) (m / 2) (half-below k m h) (λ e. ne (let w = div-add-mod' m 2 in omega arith)))
+
+pub smallest-zeros : (m : ℕ) → m < 2 ^ 32 → (m ≡ 0 → ⊥) → smallest m ≡ 1 + trailingZeros 32 m
+unfolding smallest values
+smallest-zeros m h ne = first-values 32 1 m h ne
+
+pub smallest-of-empty : smallest 0 ≡ 0
+unfolding smallest values valuesFrom firstOf
+smallest-of-empty = refl
+
+-- ---- it is a member, and none is smaller
+
+first-least : (low y : ℕ) (xs : List ℕ) → rising low xs → List·Memᴰ y xs → List·Memᴰ (firstOf xs) xs × (firstOf xs ≤ y)
+unfolding firstOf rising
+first-least low y [] r t = absurd (List·Memᴰ·not-nil t)
+first-least low y (x ∷ xs) r t = (List·Memᴰ·head refl, ⊎-elim (λ (e : y ≡ x). omega arith) (λ u. let h = rising-above x xs (r .1) u in omega arith) (List·Memᴰ·cases-cons t))
+
+pub smallest-least : (m x : ℕ) → m < 2 ^ 32 → member x m → member (smallest m) m × (smallest m ≤ x)
+unfolding smallest
+smallest-least m x h t = let s = first-least 0 x (values m) (values-rising m) (listed-of-member m x h t) in (member-of-listed m (firstOf (values m)) (s .0), s .1)
+
+first-there : (xs : List ℕ) → (firstOf xs ≡ 0 → ⊥) → List·Memᴰ (firstOf xs) xs
+unfolding firstOf
+first-there [] ne = absurd (ne refl)
+first-there (x ∷ xs) ne = List·Memᴰ·head refl
+
+smallest-there : (m : ℕ) → (smallest m ≡ 0 → ⊥) → List·Memᴰ (smallest m) (values m)
+unfolding smallest
+smallest-there m = first-there (values m)
+
+-- a set that is not empty holds its smallest value
+pub smallest-member : (m : ℕ) → m < 2 ^ 32 → (m ≡ 0 → ⊥) → member (smallest m) m
+smallest-member m h ne = member-of-listed m (smallest m) (smallest-there m (λ e. let z = smallest-zeros m h ne in omega arith))
+
+pub smallest-range : (m : ℕ) → m < 2 ^ 32 → (m ≡ 0 → ⊥) → (1 ≤ smallest m) × (smallest m ≤ 32)
+smallest-range m h ne = member-range (smallest m) m h (smallest-member m h ne)
+
+-- the smallest value of {x}
+pub smallest-of-single : (x : ℕ) → 1 ≤ x → x ≤ 32 → smallest (single x) ≡ x
+smallest-of-single x h l = member-single x (smallest (single x)) .0 (smallest-least (single x) x (single-below x) (member-single x x .1 (h, l, refl)) .0) .2
+
+-- ---- the smallest value alone, and the others
+
+-- a set that is not empty holds {its smallest value}
+pub single-inside : (m x : ℕ) → member x m → T (inside (single x) m)
+single-inside m x t = inside-iff (single x) m .1 (λ y u. subst (λ (z : ℕ). member z m) (sym (member-single x y .0 u .2)) t)
+
+-- a set has one value exactly if it is {its smallest value}
+pub count-one : (m : ℕ) → m < 2 ^ 32 → (count m ≡ 1) ↔ ((x : ℕ) × (1 ≤ x) × (x ≤ 32) × (m ≡ single x))
+count-one m h = (forth, λ s. ap count (s .3) ∙ count-of-single (s .0) (s .1) (s .2))
+  where
+    forth : count m ≡ 1 → (x : ℕ) × (1 ≤ x) × (x ≤ 32) × (m ≡ single x)
+    forth e = (smallest m, smallest-range m h ne .0, smallest-range m h ne .1, same (ℕ-discrete (single (smallest m)) m))
+      where
+        ne : m ≡ 0 → ⊥
+        ne z = let c : count m ≡ 0 = count-zero m h .1 z in omega arith
+
+        same : Dec (single (smallest m) ≡ m) → m ≡ single (smallest m)
+        same (yes s) = sym s
+        same (no d) =
+            let f : count (single (smallest m)) < count m = count-falls (single (smallest m)) m (single-below (smallest m)) h (single-inside m (smallest m) (smallest-member m h ne)) d in
+            let o : count (single (smallest m)) ≡ 1 = count-of-single (smallest m) (smallest-range m h ne .0) (smallest-range m h ne .1) in
+            absurd (omega arith)
+
+pub others-below : (m : ℕ) → m < 2 ^ 32 → others m < 2 ^ 32
+unfolding others
+others-below m h = beside-below (single (smallest m)) m h
+
+-- the others are the members that are not the smallest
+pub member-others : (m x : ℕ) → m < 2 ^ 32 → (m ≡ 0 → ⊥) → member x (others m) ↔ (member x m × (x ≡ smallest m → ⊥))
+unfolding others
+member-others m x h ne = (
+  λ t. let s = member-beside (single (smallest m)) m x h .0 t in (s .0, λ e. s .1 (member-single (smallest m) x .1 (range .0, range .1, e))),
+  λ s. member-beside (single (smallest m)) m x h .1 (s .0, λ t. s .1 (member-single (smallest m) x .0 t .2)),
+)
+  where
+    range : (1 ≤ smallest m) × (smallest m ≤ 32)
+    range = smallest-range m h ne
+
+pub others-inside : (m : ℕ) → m < 2 ^ 32 → T (inside (others m) m)
+unfolding others
+others-inside m h = inside-iff (others m) m .1 (λ x t. member-beside (single (smallest m)) m x h .0 t .0)
+
+-- every other value is above the smallest
+pub others-above : (m x : ℕ) → m < 2 ^ 32 → (m ≡ 0 → ⊥) → member x (others m) → smallest m < x
+others-above m x h ne t =
+    let s = member-others m x h ne .0 t in
+    let l : smallest m ≤ x = smallest-least m x h (s .0) .1 in
+    lt-of-le-of-ne l (λ e. s .1 (sym e))
+
+-- the smallest value and the others make the whole
+pub count-others : (m : ℕ) → m < 2 ^ 32 → (m ≡ 0 → ⊥) → count m ≡ 1 + count (others m)
+unfolding others
+count-others m h ne =
+    count-part (single (smallest m)) m (single-below (smallest m)) h (single-inside m (smallest m) (smallest-member m h ne))
+    ∙ ap (λ (n : ℕ). n + count (others m)) (count-of-single (smallest m) (smallest-range m h ne .0) (smallest-range m h ne .1))
