@@ -1,0 +1,53 @@
+-- Laws of what bytes say where they start further on, and of the tag byte. Assumes nothing.
+use mathlib.Core.Path.{_≡_, refl, sym, ap, ap₂, _∙_}
+use mathlib.Core.Bool.{Bool, true, false}
+use mathlib.Core.List.{List}
+use Prim.Native.Nat.{ℕ, _+_, _-_, _*_}
+use native.Mathlib.Nat.{add-zero, add-assoc, le-of-eq}
+use lib.Dec.{eqb}
+use lib.ListN.{length, getD, take, drop, length-drop}
+use lib.Seq.{getD-drop, take-all}
+use borrow.Author.Tests.{ne-eqb}
+use Rattle.rules.specs.declared.field.Tag.{Tag}
+use Rattle.rules.specs.declared.field.Tag.the-variants.{Header, Clause, Equality, Unknown}
+use Rattle.rules.specs.declared.field.Atom.{Atom}
+use Rattle.rules.specs.declared.field.Head.{Head}
+use Rattle.rules.specs.Reading.{pickTag, tagOf, lengthAt, setAt, atomOf, headOf}
+
+-- the byte at an offset of the bytes from a place on
+byte-drop : (bytes : List ℕ) (k at i : ℕ) → getD (drop k bytes) (at + i) 0 ≡ getD bytes (k + at + i) 0
+byte-drop bytes k at i = getD-drop k bytes (at + i) 0 ∙ ap (λ (j : ℕ). getD bytes j 0) (sym (add-assoc k at i))
+
+pub length-at-drop : (bytes : List ℕ) (k at : ℕ) → lengthAt (drop k bytes) at ≡ lengthAt bytes (k + at)
+unfolding lengthAt
+length-at-drop bytes k at = ap₂ (λ (x y : ℕ). x * 256 + y) (getD-drop k bytes at 0) (byte-drop bytes k at 1)
+
+pub set-at-drop : (bytes : List ℕ) (k at : ℕ) → setAt (drop k bytes) at ≡ setAt bytes (k + at)
+unfolding setAt
+set-at-drop bytes k at =
+    ap₂ (λ (x y : ℕ). x * 256 + y)
+    (ap₂ (λ (x y : ℕ). x * 256 + y) (ap₂ (λ (x y : ℕ). x * 256 + y) (getD-drop k bytes at 0) (byte-drop bytes k at 1)) (byte-drop bytes k at 2))
+    (byte-drop bytes k at 3)
+
+-- the first byte from a place on
+pub first-drop : (bytes : List ℕ) (k : ℕ) → getD (drop k bytes) 0 0 ≡ getD bytes k 0
+first-drop bytes k = getD-drop k bytes 0 0 ∙ ap (λ (j : ℕ). getD bytes j 0) (add-zero k)
+
+-- the atom from a place on
+pub atom-drop : (bytes : List ℕ) (k : ℕ) → atomOf (drop k bytes) ≡ record { position = getD bytes k 0; set = setAt bytes (k + 1) }
+unfolding atomOf
+atom-drop bytes k = λ i. record { position = first-drop bytes k i; set = set-at-drop bytes k 1 i }
+
+-- the head from a place on
+pub head-drop : (bytes : List ℕ) (k : ℕ) → headOf (drop k bytes) ≡ record { kind = tagOf (getD bytes k 0); length = lengthAt bytes (k + 1) }
+unfolding headOf
+head-drop bytes k = λ i. record { kind = tagOf (first-drop bytes k i); length = length-at-drop bytes k 1 i }
+
+-- the part of a slice from a place on is the bytes from there on
+pub rest-part : (k : ℕ) (bytes : List ℕ) → take (length bytes - k) (drop k bytes) ≡ drop k bytes
+rest-part k bytes = take-all (length bytes - k) (drop k bytes) (le-of-eq (length-drop k bytes))
+
+-- a tag that is none of the known ones
+pub tag-unknown : (tag : ℕ) → (tag ≡ 1 → ⊥) → (tag ≡ 2 → ⊥) → (tag ≡ 3 → ⊥) → tagOf tag ≡ Unknown
+unfolding tagOf
+tag-unknown tag not1 not2 not3 = simp (ne-eqb tag 1 not1, ne-eqb tag 2 not2, ne-eqb tag 3 not3)

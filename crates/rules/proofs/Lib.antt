@@ -1,0 +1,9 @@
+pub mod ByteLaws
+pub mod CheckLaws
+pub mod DictionaryOrder
+pub mod EqualityMeaning
+pub mod FaultLaws
+pub mod FieldLaws
+pub mod HeaderLaws
+pub mod ListLaws
+pub mod ReadingLaws

@@ -1,0 +1,28 @@
+-- `rules::check::atom_fault` meets its contract: the position before the set. Assumes nothing.
+use mathlib.Core.Path.{_≡_, refl, sym, ap, ap₂, _∙_}
+use Rattle.rules.specs.Reading.{orElse, atomFault}
+use borrow.Author.Needs.{needs}
+use Rattle.rules.proofs.check.atom_fault.Statement.{statement}
+use Rattle.rules.proofs.check.atom_fault.Tie as tie
+use Rattle.rules.proofs.check.atom_fault.Reads as reads
+use Rattle.rules.proofs.check.atom_fault.Lts as lts
+use Rattle.rules.proofs.check.first_of.Reads as first-of-reads
+use Rattle.rules.proofs.check.position_fault.Reads as position-fault-reads
+use Rattle.rules.proofs.check.set_fault.Reads as set-fault-reads
+
+position-fault-requires : tie.Need-position-fault-requires
+position-fault-requires c κs = search needs
+
+set-fault-requires : tie.Need-set-fault-requires
+set-fault-requires c κs = search needs
+
+first-of-requires : tie.Need-first-of-requires
+first-of-requires c κs = search needs
+
+returns : tie.Need-returns
+unfolding atomFault
+returns c = c .first-of .ensures ∙ ap₂ orElse (c .before .before .position-fault .ensures) (c .before .set-fault .ensures)
+
+pub atom-fault-spec : {M : Type 1} → statement M
+atom-fault-spec =
+    tie.close (tie.spec position-fault-requires set-fault-requires first-of-requires returns)

@@ -1,0 +1,33 @@
+-- `rules::field::tag_of` meets its contract: arm by arm. Assumes nothing.
+use mathlib.Core.Path.{_≡_, refl, sym, ap, _∙_}
+use Prim.Native.Nat.{ℕ}
+use native.Mathlib.Omega.{arith}
+use Rattle.rules.specs.declared.field.Tag.the-variants.{Header, Clause, Equality, Unknown}
+use Rattle.rules.specs.Reading.{tagOf}
+use Rattle.rules.proofs.ByteLaws.{tag-unknown}
+use Rattle.rules.proofs.field.tag_of.Statement.{statement}
+use Rattle.rules.proofs.field.tag_of.Tie as tie
+use Rattle.rules.proofs.field.tag_of.Reads as reads
+use Rattle.rules.proofs.field.tag_of.Lts as lts
+
+returns : tie.Need-returns
+unfolding tagOf
+returns c = sym (ap tagOf (c .match .keys1))
+
+returns-2 : tie.Need-returns-2
+unfolding tagOf
+returns-2 c = sym (ap tagOf (c .match .keys2))
+
+returns-3 : tie.Need-returns-3
+unfolding tagOf
+returns-3 c = sym (ap tagOf (c .match .keys3))
+
+returns-4 : tie.Need-returns-4
+unfolding tagOf
+returns-4 c = sym (ap tagOf (c .match .keys4))
+
+returns-5 : tie.Need-returns-5
+returns-5 c = sym (tag-unknown (c .before .args .tag) (c .match .rest .0 .0 .0 .1) (c .match .rest .0 .0 .1) (c .match .rest .0 .1))
+
+pub tag-of-spec : {M : Type 1} → statement M
+tag-of-spec = tie.close (tie.spec returns returns-2 returns-3 returns-4 returns-5)

@@ -1,0 +1,76 @@
+// What the bytes of one field say: its tag, its length, its atoms, its set and its positions.
+// The contracts cite specs/Reading.antt.
+ghost use mathlib.Core.Path.{_≡_};
+ghost use Prim.Native.Nat.{_+_, _≤_, _<_};
+ghost use lib.ListN.{length, drop};
+ghost use Rattle.rules.specs.Reading.{tagOf, lengthAt, setAt, atomOf, headOf};
+
+// The kinds of field that a tag byte can announce.
+pub enum Tag {
+    Header,
+    Clause,
+    Equality,
+    Unknown,
+}
+
+// A position and the set that its value may lie in.
+pub struct Atom {
+    pub position: u32,
+    pub set: u32,
+}
+
+// The first three bytes of a field: its kind, and how many bytes of content follow.
+pub struct Head {
+    pub kind: Tag,
+    pub length: usize,
+}
+
+// The decision over the tag byte. Tags 1, 2 and 3 are known.
+pub fn tag_of(tag: u8) -> Tag
+    ensures { λ r. ⌜ r ≡ tagOf tag ⌝ }
+{
+    match tag {
+        1 => Tag::Header,
+        2 => Tag::Clause,
+        3 => Tag::Equality,
+        0 | 4..=255 => Tag::Unknown,
+    }
+}
+
+// The two bytes from `at` on as a number, high byte first.
+fn two_at(bytes: &[u8], at: usize) -> u32
+    requires { ⌜ at + 2 ≤ length (now bytes) ⌝ }
+    ensures { λ r. ⌜ (r ≡ lengthAt (now (bytes .entry)) at) × (r < 65536) ⌝ }
+{
+    let high = bytes[at] as u32;
+    let low = bytes[at + 1] as u32;
+    high * 256 + low
+}
+
+// The four bytes from `at` on as a set, high byte first.
+pub fn set_at(bytes: &[u8], at: usize) -> u32
+    requires { ⌜ at + 4 ≤ length (now bytes) ⌝ }
+    ensures { λ r. ⌜ r ≡ setAt (now (bytes .entry)) at ⌝ }
+{
+    two_at(bytes, at) * 65536 + two_at(bytes, at + 2)
+}
+
+// The five bytes from `at` on as an atom: a position byte, then its set.
+pub fn atom_at(bytes: &[u8], at: usize) -> Atom
+    requires { ⌜ at + 5 ≤ length (now bytes) ⌝ }
+    ensures { λ r. ⌜ r ≡ atomOf (drop at (now (bytes .entry))) ⌝ }
+{
+    let position = bytes[at] as u32;
+    let set = set_at(bytes, at + 1);
+    Atom { position, set }
+}
+
+// The head of the field that starts at `at`.
+pub fn head_at(bytes: &[u8], at: usize) -> Head
+    requires { ⌜ at + 3 ≤ length (now bytes) ⌝ }
+    ensures { λ r. ⌜ r ≡ headOf (drop at (now (bytes .entry))) ⌝ }
+{
+    let kind = tag_of(bytes[at]);
+    let length = two_at(bytes, at + 1) as usize;
+    Head { kind, length }
+}
