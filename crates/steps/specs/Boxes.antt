@@ -1,0 +1,62 @@
+-- Boxes of rooms: the values still open for each position. Assumes nothing.
+use Prim.Native.Nat.{ℕ, zero, suc, _+_, _*_, _-_, _<_}
+use mathlib.Core.Path.{_≡_}
+use mathlib.Core.List.{List, [], _∷_, map}
+use lib.Dec.{T}
+use lib.ListN.{length, getD, set, replicate}
+use Rattle.sets.specs.Sets.{member, full, single, inside, count, smallest, others}
+use Prim.Native.Nat.{_^_}
+use Rattle.rules.specs.Lists.{Every}
+
+-- A box is the list of the rooms of positions 1 to v in turn.
+
+-- the room of a position
+unfoldable pub roomAt : List ℕ → ℕ → ℕ
+roomAt box p = getD box (p - 1) 0
+
+-- the box with another room for a position
+unfoldable pub withRoom : List ℕ → ℕ → ℕ → List ℕ
+withRoom box p room = set box (p - 1) room
+
+-- at the start each of the v rooms is {1..n}
+unfoldable pub startBox : ℕ → ℕ → List ℕ
+startBox v n = replicate v (full n)
+
+-- the number of open values: the sum of the rooms' sizes
+unfoldable pub openValues : List ℕ → ℕ
+openValues [] = 0
+openValues (room ∷ box) = count room + openValues box
+
+-- the number of assignments in a box: the product of the rooms' sizes
+unfoldable pub boxSize : List ℕ → ℕ
+boxSize [] = 1
+boxSize (room ∷ box) = count room * boxSize box
+
+-- the assignment lies in the box: each value in its position's room
+abbrev pub InBox : List ℕ → List ℕ → Type 0
+InBox [] [] = Unit {0}
+InBox [] (room ∷ box) = ⊥
+InBox (x ∷ a) [] = ⊥
+InBox (x ∷ a) (room ∷ box) = member x room × InBox a box
+
+-- each room of the one box lies inside the room of the other
+abbrev pub BoxInside : List ℕ → List ℕ → Type 0
+BoxInside [] [] = Unit {0}
+BoxInside [] (s ∷ b) = ⊥
+BoxInside (r ∷ a) [] = ⊥
+BoxInside (r ∷ a) (s ∷ b) = T (inside r s) × BoxInside a b
+
+-- rooms as they are before and after every step: masks of 32 values, none of them empty
+abbrev pub Rooms : List ℕ → Type 0
+Rooms box = Every (λ room. (room < 2 ^ 32) × (room ≡ 0 → ⊥)) box
+
+-- the smallest value of each room
+unfoldable pub smallestOf : List ℕ → List ℕ
+smallestOf box = map smallest box
+
+-- the two halves of a box at the room with an index: its smallest value alone, and the others
+unfoldable pub firstHalf : ℕ → List ℕ → List ℕ
+firstHalf i box = set box i (single (smallest (getD box i 0)))
+
+unfoldable pub otherHalf : ℕ → List ℕ → List ℕ
+otherHalf i box = set box i (others (getD box i 0))
