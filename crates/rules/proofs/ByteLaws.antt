@@ -1,18 +1,13 @@
 -- Laws of what bytes say where they start further on, and of the tag byte. Assumes nothing.
-use mathlib.Core.Path.{_≡_, refl, sym, ap, ap₂, _∙_}
-use mathlib.Core.Bool.{Bool, true, false}
+use mathlib.Core.Path.{_≡_, sym, ap, ap₂, _∙_}
 use mathlib.Core.List.{List}
 use Prim.Native.Nat.{ℕ, _+_, _-_, _*_}
 use native.Mathlib.Nat.{add-zero, add-assoc, le-of-eq}
-use lib.Dec.{eqb}
 use lib.ListN.{length, getD, take, drop, length-drop}
 use lib.Seq.{getD-drop, take-all}
 use borrow.Author.Tests.{ne-eqb}
-use Rattle.rules.specs.declared.field.Tag.{Tag}
-use Rattle.rules.specs.declared.field.Tag.the-variants.{Header, Clause, Equality, Unknown}
-use Rattle.rules.specs.declared.field.Atom.{Atom}
-use Rattle.rules.specs.declared.field.Head.{Head}
-use Rattle.rules.specs.Reading.{pickTag, tagOf, lengthAt, setAt, atomOf, headOf}
+use Rattle.rules.specs.declared.field.Tag.the-variants.{Unknown}
+use Rattle.rules.specs.Reading.{tagOf, lengthAt, setAt, atomOf, headOf}
 
 -- the byte at an offset of the bytes from a place on
 byte-drop : (bytes : List ℕ) (k at i : ℕ) → getD (drop k bytes) (at + i) 0 ≡ getD bytes (k + at + i) 0

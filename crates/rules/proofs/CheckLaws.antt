@@ -1,15 +1,14 @@
 -- Laws of the walk over the fields: what the verdict is from a place on. Assumes nothing.
 use mathlib.Core.Path.{_≡_, refl, sym, ap, _∙_}
-use mathlib.Core.List.{List, []}
+use mathlib.Core.List.{List}
 use Prim.Native.Nat.{ℕ, zero, suc, _+_, _≤_, _<_}
 use native.Mathlib.Omega.{arith}
 use lib.ListN.{length, getD, drop, length-drop}
-use Rattle.rules.specs.declared.check.Checked.{Checked}
 use Rattle.rules.specs.declared.check.Checked.the-variants.{Sound, Refused}
 use Rattle.rules.specs.Rules.{Field}
 use Rattle.rules.specs.Reading.{Reading, sound, refused, refuseFor, withField, fieldFault, sizeOf, headerFault, readFields, reading}
 use Rattle.rules.specs.Checked.{checkedOf}
-use Rattle.rules.proofs.FieldLaws.{sound-field}
+use Rattle.rules.proofs.FieldLaws.{field-whole}
 use Rattle.rules.proofs.ReadingLaws.{fieldAt, read-on, read-end}
 
 -- one field more in front changes no verdict
@@ -45,8 +44,8 @@ module _ (v n at : ℕ) (s : List ℕ) where
   checked-end h = ap checkedOf (read-end v n at s h)
 
   -- a field with no fault lies within the bytes
-  pub field-whole : at < length s → fieldFault v n (drop at s) ≡ 0 → at + sizeOf (drop at s) ≤ length s
-  field-whole h e = omega (arith, sound-field v n (drop at s) e .whole, length-drop at s)
+  pub next-within : at < length s → fieldFault v n (drop at s) ≡ 0 → at + sizeOf (drop at s) ≤ length s
+  next-within h e = omega (arith, field-whole v n (drop at s) e, length-drop at s)
 
 -- ---- the header
 

@@ -1,16 +1,15 @@
 -- Laws of the header's tests: which fault is found, and what is known where there is none. Assumes nothing.
-use mathlib.Core.Path.{_≡_, refl, sym, ap, ap₂, _∙_}
+use mathlib.Core.Path.{_≡_, refl, sym, ap, ap₂}
 use mathlib.Core.Bool.{Bool, true, false, not, _&&_}
 use mathlib.Core.List.{List}
-use Prim.Native.Nat.{ℕ, _+_, _≤_, _<_}
+use Prim.Native.Nat.{ℕ, _≤_, _<_}
 use native.Mathlib.Omega.{arith}
-use lib.Dec.{leb, ltb, eqb}
+use lib.Dec.{leb}
 use lib.ListN.{length, getD, drop, length-drop}
-use borrow.Author.Tests.{eq-eqb, ne-eqb, lt-ltb, le-ltb, ltb-false, not-false}
-use Rattle.rules.specs.declared.field.Tag.the-variants.{Header}
+use borrow.Author.Tests.{eq-eqb, ne-eqb, lt-ltb, le-ltb}
 use Rattle.rules.specs.Reading.{faultIf, isHeader, headOf, lengthFits, contentOf, limitsFit, headerFault}
 use Rattle.rules.specs.Checked.{headerBodyFault}
-use Rattle.rules.proofs.FieldLaws.{fault-none}
+use Rattle.rules.proofs.SoundLaws.{header-fault-none}
 
 module _ (len : ℕ) (bytes : List ℕ) where
   pub header-length : (len ≡ 2 → ⊥) → 17 ≡ headerBodyFault len bytes
@@ -61,15 +60,7 @@ header-other bytes h e = header-head bytes 14 h (ap (λ (t : Bool). faultIf (not
 pub header-body : (bytes : List ℕ) → 3 ≤ length bytes → isHeader (headOf bytes .kind) ≡ true → headerBodyFault (headOf bytes .length) bytes ≡ headerFault bytes
 header-body bytes h e = header-head bytes _ h (ap (λ (t : Bool). faultIf (not t) 14 (λ _. headerBodyFault (headOf bytes .length) bytes)) e)
 
--- a header of no fault is there whole, and its numbers are within the limits
-pub header-sound : (bytes : List ℕ) → headerFault bytes ≡ 0 → (5 ≤ length bytes) × (limitsFit (getD bytes 3 0) (getD bytes 4 0) ≡ true)
-unfolding headerFault contentOf
-header-sound bytes e =
-    let empty = fault-none (eqb (length bytes) 0) 14 _ (λ z. omega arith) e in
-    let cut = fault-none (ltb (length bytes) 3) 13 _ (λ z. omega arith) (empty .1) in
-    let other = fault-none (not (isHeader (headOf bytes .kind))) 14 _ (λ z. omega arith) (cut .1) in
-    let len = fault-none (not (lengthFits Header (headOf bytes .length))) 17 _ (λ z. omega arith) (other .1) in
-    let missing = fault-none (ltb (length (drop 3 bytes)) 2) 13 _ (λ z. omega arith) (len .1) in
-    let limits = fault-none (not (limitsFit (getD bytes 3 0) (getD bytes 4 0))) 18 _ (λ z. omega arith) (missing .1) in
-    let there : 2 ≤ length (drop 3 bytes) = ltb-false (length (drop 3 bytes)) 2 (missing .0) in
-    (omega (arith, length-drop 3 bytes), not-false _ (limits .0))
+-- a header of no fault is there whole
+pub header-long : (bytes : List ℕ) → headerFault bytes ≡ 0 → 5 ≤ length bytes
+unfolding contentOf
+header-long bytes e = omega (arith, header-fault-none bytes .0 e .content-there, length-drop 3 bytes)

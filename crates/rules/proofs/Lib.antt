@@ -4,6 +4,12 @@ pub mod DictionaryOrder
 pub mod EqualityMeaning
 pub mod FaultLaws
 pub mod FieldLaws
+pub mod FrameLaws
 pub mod HeaderLaws
 pub mod ListLaws
+pub mod ReadExamples
 pub mod ReadingLaws
+pub mod RoundTrip
+pub mod SoundLaws
+pub mod Unique
+pub mod WrittenLaws

@@ -7,7 +7,7 @@ use native.Mathlib.Nat.{not-suc-le-zero, eq-zero-or-pos}
 use native.Mathlib.Omega.{arith}
 use lib.ListN.{length, drop, length-drop}
 use lib.Seq.{drop-drop}
-use Rattle.rules.specs.Rules.{Field, File}
+use Rattle.rules.specs.Rules.{Field}
 use Rattle.rules.specs.Reading.{Reading, sound, refuseFor, withField, fieldFault, ruleAt, sizeOf, readFields}
 
 -- the field that the bytes at a place start with

@@ -1,23 +1,21 @@
 -- Laws of the number of values in a set. Assumes nothing.
 use mathlib.Core.Path.{_≡_, refl, sym, ap, ap₂, _∙_, subst}
-use mathlib.Core.Logic.{_↔_, _⊎_, inl, inr, ⊎-elim}
+use mathlib.Core.Logic.{_↔_, inl, inr, ⊎-elim}
 use mathlib.Core.Bool.{Bool, true, false}
-use mathlib.Core.List.{List, [], _∷_}
-use Prim.Native.Nat.{ℕ, zero, suc, _+_, _-_, _*_, _/_, _%_, _^_, _≤_, _<_, min, max, zero-le}
-use native.Mathlib.Nat.{zero-lt-suc, mod-lt, div-add-mod', add-zero, max-add-min, pow-suc, eq-zero-or-pos}
-use native.Mathlib.Numerals.{add-one}
+use mathlib.Core.List.{List}
+use Prim.Native.Nat.{ℕ, zero, suc, _+_, _-_, _*_, _/_, _%_, _^_, _≤_, _<_, min, max}
+use native.Mathlib.Nat.{zero-lt-suc, mod-lt, div-add-mod', max-add-min, pow-suc, eq-zero-or-pos}
 use native.Mathlib.Omega.{arith}
 use lib.Arith.{digits-div, digits-mod, lt-one}
-use lib.Bits.{bitAnd, bitOr, or-step, and-step, or-zero-l, and-zero-l}
+use lib.Bits.{bitAnd, bitOr, or-step, and-step}
 use lib.Count.{ones, onesIn, ones-step, ones-ones, ones-le}
 use lib.Dec.{T}
 use lib.ListN.{length}
-use lib.Pow.{pow-pos}
 use Rattle.sets.specs.Sets.{digit, isMember, member, inRange, onlyIf, full, single, union, common, complement, inside, listedIf, valuesFrom, values, count, beside}
 use Rattle.sets.specs.Promise.{oneIf, howMany}
-use Rattle.sets.proofs.Digits.{half-below, digit-small, digit-cases}
-use Rattle.sets.proofs.Members.{test-true, test-cases, in-range, member-digit, member-empty, member-range, member-union, member-common, member-complement, member-full}
-use Rattle.sets.proofs.Sameness.{full-below, single-below, union-below, common-below, complement-below, member-extensional, no-member-empty, inside-iff}
+use Rattle.sets.proofs.Digits.{half-below}
+use Rattle.sets.proofs.Members.{test-cases, in-range, member-digit, member-empty, member-range, member-union, member-common, member-complement}
+use Rattle.sets.proofs.Sameness.{full-below, single-below, union-below, common-below, member-extensional, no-member-empty, inside-iff}
 use Rattle.sets.proofs.Shifts.{only-if-so}
 use Rattle.sets.proofs.Values.{values-step}
 

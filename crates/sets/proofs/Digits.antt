@@ -1,8 +1,8 @@
 -- Laws of a number's binary digits: the operations on masks go digit by digit, and a number is known by its digits. Assumes nothing.
 use mathlib.Core.Path.{_≡_, refl, sym, ap, ap₂, _∙_, subst}
-use mathlib.Core.Logic.{_⊎_, inl, inr, ⊎-elim}
+use mathlib.Core.Logic.{_⊎_, inl, inr}
 use Prim.Native.Nat.{ℕ, zero, suc, _+_, _-_, _*_, _/_, _%_, _^_, _≤_, _<_, min, max}
-use native.Mathlib.Nat.{pow-suc, zero-lt-suc, mod-lt, div-add-mod', div-lt-iff-lt-mul, not-suc-le-zero, min-le-left, max-le, le-of-suc-le-suc, suc-inj}
+use native.Mathlib.Nat.{pow-suc, zero-lt-suc, mod-lt, div-add-mod', div-lt-iff-lt-mul, not-suc-le-zero, le-of-suc-le-suc}
 use native.Mathlib.Omega.{arith}
 use lib.Arith.{digits-div, digits-mod, lt-one}
 use lib.Pow.{pow-pos}

@@ -1,17 +1,17 @@
 -- Laws of membership: who is in each set that the operations make. The layers above cite these and unfold no operation. Assumes nothing.
 use mathlib.Core.Path.{_≡_, refl, sym, ap, ap₂, _∙_, subst}
 use mathlib.Core.Logic.{_↔_, _⊎_, inl, inr, ⊎-elim}
-use mathlib.Core.Bool.{Bool, true, false, not, _&&_}
-use Prim.Native.Nat.{ℕ, zero, suc, _+_, _-_, _^_, _≤_, _<_, min, max, zero-le, suc-le-suc}
-use native.Mathlib.Nat.{le-refl, le-trans, le-of-suc-le-suc, not-suc-le-zero, zero-lt-suc, zero-min}
+use mathlib.Core.Bool.{Bool, true, false, _&&_}
+use Prim.Native.Nat.{ℕ, zero, suc, _-_, _^_, _≤_, _<_, min, max, zero-le}
+use native.Mathlib.Nat.{not-suc-le-zero, zero-lt-suc, zero-min}
 use native.Mathlib.Decide.{decLe, ℕ-discrete}
 use native.Mathlib.Omega.{arith}
 use lib.Dec.{T, eqb, leb, eqb→eq, leb→le, le→leb}
-use lib.Pow.{pow-pos, pow-mono, ones-lt, pow-lt}
-use lib.Bits.{bitAnd, bitOr, bitXor, differ, and-lt, or-lt, xor-lt, and-le-l}
-use borrow.Author.Tests.{eq-eqb, eqb-true, ne-eqb, le-leb, lt-leb, leb-true}
-use Rattle.sets.specs.Sets.{digit, isMember, member, inRange, onlyIf, full, single, union, common, complement, isEmpty, inside}
-use Rattle.sets.proofs.Digits.{digit-small, digit-cases, digit-of-zero, digit-high, digit-extensional, digit-and, digit-or, digit-xor, digit-ones-low, digit-power-same, digit-power-other}
+use lib.Pow.{ones-lt}
+use lib.Bits.{bitAnd, bitOr, bitXor, differ}
+use borrow.Author.Tests.{eq-eqb}
+use Rattle.sets.specs.Sets.{digit, isMember, member, inRange, onlyIf, full, single, union, common, complement}
+use Rattle.sets.proofs.Digits.{digit-small, digit-cases, digit-of-zero, digit-high, digit-and, digit-or, digit-xor, digit-ones-low, digit-power-same, digit-power-other}
 
 -- ---- tests and what they say
 

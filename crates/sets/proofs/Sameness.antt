@@ -1,17 +1,17 @@
 -- Laws of sets as wholes: bounds of masks, sets with the same members are the same, and inside as a statement of members. Assumes nothing.
-use mathlib.Core.Path.{_≡_, refl, sym, ap, _∙_, subst}
-use mathlib.Core.Logic.{_↔_, _⊎_, inl, inr, ⊎-elim}
+use mathlib.Core.Path.{_≡_, sym, _∙_, subst}
+use mathlib.Core.Logic.{_↔_, _⊎_, inl, inr}
 use mathlib.Core.Bool.{Bool, true, false}
-use Prim.Native.Nat.{ℕ, zero, suc, _+_, _-_, _*_, _^_, _≤_, _<_}
-use native.Mathlib.Nat.{le-refl, le-trans, zero-lt-suc, lt-of-lt-of-le, lt-of-le-of-lt, pow-suc, le-add-right, le-add-left}
+use Prim.Native.Nat.{ℕ, zero, suc, _+_, _-_, _*_, _^_, _<_}
+use native.Mathlib.Nat.{lt-of-lt-of-le, lt-of-le-of-lt, pow-suc, le-add-right, le-add-left}
 use native.Mathlib.Omega.{arith}
 use lib.Dec.{T, eqb, eqb→eq, lit<}
-use lib.Pow.{pow-pos, pow-mono, pow-lt, ones-lt}
-use lib.Bits.{or-lt, and-lt, xor-lt, and-le-l}
+use lib.Pow.{pow-mono, pow-lt, ones-lt}
+use lib.Bits.{or-lt, xor-lt, and-le-l}
 use borrow.Author.Tests.{eq-eqb}
-use Rattle.sets.specs.Sets.{digit, isMember, member, inRange, onlyIf, full, single, union, common, complement, isEmpty, inside}
+use Rattle.sets.specs.Sets.{digit, member, inRange, onlyIf, full, single, union, common, complement, isEmpty, inside}
 use Rattle.sets.proofs.Digits.{digit-cases, digit-extensional}
-use Rattle.sets.proofs.Members.{true-test, member-digit, member-empty, member-common, member-full, member-complement, in-range}
+use Rattle.sets.proofs.Members.{true-test, member-digit, member-empty, member-common, in-range}
 
 -- ---- masks stay below 2 ^ 32
 

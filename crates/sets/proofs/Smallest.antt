@@ -1,21 +1,20 @@
 -- Laws of the smallest value of a set, and of a set without it. Assumes nothing.
 use mathlib.Core.Path.{_≡_, refl, sym, ap, _∙_, subst}
-use mathlib.Core.Logic.{_↔_, _⊎_, inl, inr, ⊎-elim}
-use mathlib.Core.Bool.{Bool, true, false}
+use mathlib.Core.Logic.{_↔_, ⊎-elim}
 use mathlib.Core.List.{List, [], _∷_, List·Memᴰ, List·Memᴰ·head, List·Memᴰ·not-nil, List·Memᴰ·cases-cons}
-use Prim.Native.Nat.{ℕ, zero, suc, _+_, _-_, _*_, _/_, _%_, _^_, _≤_, _<_}
-use native.Mathlib.Nat.{le-refl, mod-lt, zero-lt-suc, add-suc, suc-add, add-zero, div-add-mod'}
+use Prim.Native.Nat.{ℕ, zero, suc, _+_, _/_, _%_, _^_, _≤_, _<_}
+use native.Mathlib.Nat.{mod-lt, zero-lt-suc, add-suc, suc-add, add-zero, div-add-mod'}
 use native.Mathlib.Decide.{ℕ-discrete}
 use native.Mathlib.Numerals.{lt-of-le-of-ne}
 use native.Mathlib.Omega.{arith}
 use lib.Arith.{lt-one}
 use lib.Count.{trailingZeros, under}
 use lib.Dec.{T}
-use Rattle.sets.specs.Sets.{member, single, common, complement, inside, listedIf, valuesFrom, values, rising, count, firstOf, smallest, beside, others}
+use Rattle.sets.specs.Sets.{member, single, inside, listedIf, valuesFrom, values, rising, count, firstOf, smallest, others}
 use Rattle.sets.proofs.Digits.{half-below}
-use Rattle.sets.proofs.Members.{member-empty, member-range, member-single, member-common, member-complement}
+use Rattle.sets.proofs.Members.{member-range, member-single}
 use Rattle.sets.proofs.Sameness.{single-below, inside-iff}
-use Rattle.sets.proofs.Values.{values-step, values-of-zero, member-of-listed, listed-of-member, values-rising, rising-above}
+use Rattle.sets.proofs.Values.{values-step, member-of-listed, listed-of-member, values-rising, rising-above}
 use Rattle.sets.proofs.Counting.{beside-below, member-beside, count-of-single, count-zero, count-falls, count-part}
 
 two-pos : zero < 2

@@ -1,16 +1,14 @@
 -- Laws of the rising list of a set's values. Assumes nothing.
-use mathlib.Core.Path.{_≡_, refl, sym, ap, _∙_, subst}
-use mathlib.Core.Logic.{_↔_, _⊎_, inl, inr, ⊎-elim}
+use mathlib.Core.Path.{_≡_, refl, sym, _∙_, subst}
+use mathlib.Core.Logic.{_⊎_, inl, inr, ⊎-elim}
 use mathlib.Core.List.{List, [], _∷_, List·Memᴰ, List·Memᴰ·head, List·Memᴰ·tail, List·Memᴰ·not-nil, List·Memᴰ·cases-cons, Memᴰ·cast}
-use Prim.Native.Nat.{ℕ, zero, suc, _+_, _-_, _/_, _%_, _^_, _≤_, _<_, zero-le, suc-le-suc}
-use native.Mathlib.Nat.{le-refl, le-trans, le-of-suc-le-suc, not-suc-le-zero, zero-lt-suc, add-suc, suc-add, add-zero, zero-add}
+use Prim.Native.Nat.{ℕ, zero, suc, _+_, _/_, _%_, _^_, _≤_, _<_}
+use native.Mathlib.Nat.{le-of-suc-le-suc, not-suc-le-zero, add-suc, suc-add, add-zero}
 use native.Mathlib.Numerals.{one-add}
 use native.Mathlib.Omega.{arith}
-use lib.Count.{ones, ones-step}
-use lib.ListN.{length}
-use Rattle.sets.specs.Sets.{digit, isMember, member, listedIf, valuesFrom, values, count, firstOf, smallest}
+use Rattle.sets.specs.Sets.{digit, member, listedIf, valuesFrom, values}
 use Rattle.sets.specs.Sets.{rising}
-use Rattle.sets.proofs.Digits.{digit-cases, digit-small, half-below}
+use Rattle.sets.proofs.Digits.{digit-small}
 use Rattle.sets.proofs.Members.{member-digit, member-not-zero, member-below}
 
 -- the values of the empty set

@@ -1,14 +1,9 @@
 -- `rules::check::atom_fault` meets its contract: the position before the set. Assumes nothing.
-use mathlib.Core.Path.{_≡_, refl, sym, ap, ap₂, _∙_}
+use mathlib.Core.Path.{ap₂, _∙_}
 use Rattle.rules.specs.Reading.{orElse, atomFault}
 use borrow.Author.Needs.{needs}
 use Rattle.rules.proofs.check.atom_fault.Statement.{statement}
 use Rattle.rules.proofs.check.atom_fault.Tie as tie
-use Rattle.rules.proofs.check.atom_fault.Reads as reads
-use Rattle.rules.proofs.check.atom_fault.Lts as lts
-use Rattle.rules.proofs.check.first_of.Reads as first-of-reads
-use Rattle.rules.proofs.check.position_fault.Reads as position-fault-reads
-use Rattle.rules.proofs.check.set_fault.Reads as set-fault-reads
 
 position-fault-requires : tie.Need-position-fault-requires
 position-fault-requires c κs = search needs

@@ -3,16 +3,10 @@ use mathlib.Core.Path.{_≡_, refl, sym, ap, _∙_}
 use Prim.Native.Nat.{ℕ, _+_, _-_, _*_, _≤_}
 use native.Mathlib.Omega.{arith}
 use lib.ListN.{length, drop}
-use lib.Seq.{drop-drop}
-use Rattle.rules.specs.Reading.{orElse, atomOf, atomsOf, atomFault, atomsFault}
+use Rattle.rules.specs.Reading.{orElse, atomsOf, atomFault, atomsFault}
 use Rattle.rules.proofs.FaultLaws.{first-fault, later-fault, atoms-scan}
-use borrow.Author.Needs.{needs}
 use Rattle.rules.proofs.check.atoms_fault.Statement.{statement}
 use Rattle.rules.proofs.check.atoms_fault.Tie as tie
-use Rattle.rules.proofs.check.atoms_fault.Reads as reads
-use Rattle.rules.proofs.check.atoms_fault.Lts as lts
-use Rattle.rules.proofs.check.atom_fault.Reads as atom-fault-reads
-use Rattle.rules.proofs.field.atom_at.Reads as atom-at-reads
 
 abbrev Inv-loop : tie.InvT-loop
 Inv-loop content count v n at₀ left₀ at left = (at + left * 5 ≤ length content) × (atomsFault v n (atomsOf count content) ≡ atomsFault v n (atomsOf left (drop at content)))

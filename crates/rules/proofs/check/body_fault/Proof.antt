@@ -1,16 +1,10 @@
 -- `rules::check::body_fault` meets its contract: test by test. Assumes nothing.
-use mathlib.Core.Path.{_≡_, refl, sym, ap, _∙_}
-use mathlib.Core.Bool.{not}
-use lib.ListN.{length}
+use mathlib.Core.Path.{sym, _∙_}
 use borrow.Author.Tests.{lt-ltb, le-ltb, not-true, not-false}
 use Rattle.rules.specs.Checked.{bodyFault}
 use borrow.Author.Needs.{needs}
 use Rattle.rules.proofs.check.body_fault.Statement.{statement}
 use Rattle.rules.proofs.check.body_fault.Tie as tie
-use Rattle.rules.proofs.check.body_fault.Reads as reads
-use Rattle.rules.proofs.check.body_fault.Lts as lts
-use Rattle.rules.proofs.check.content_fault.Reads as content-fault-reads
-use Rattle.rules.proofs.check.length_fits.Reads as length-fits-reads
 
 length-fits-requires : tie.Need-length-fits-requires
 length-fits-requires c κs = search needs

@@ -1,17 +1,13 @@
 -- `rules::check::check` meets its contract: the header, then the fields. Assumes nothing.
-use mathlib.Core.Path.{_≡_, refl, sym, ap, _∙_}
-use Prim.Native.Nat.{ℕ, _≤_}
+use mathlib.Core.Path.{sym, _∙_}
+use Prim.Native.Nat.{_≤_}
 use native.Mathlib.Omega.{arith}
 use lib.ListN.{length}
-use Rattle.rules.proofs.HeaderLaws.{header-sound}
+use Rattle.rules.proofs.HeaderLaws.{header-long}
 use Rattle.rules.proofs.CheckLaws.{checked-header-refused, checked-header-sound}
 use borrow.Author.Needs.{needs}
 use Rattle.rules.proofs.check.check.Statement.{statement}
 use Rattle.rules.proofs.check.check.Tie as tie
-use Rattle.rules.proofs.check.check.Reads as reads
-use Rattle.rules.proofs.check.check.Lts as lts
-use Rattle.rules.proofs.check.check_fields.Reads as check-fields-reads
-use Rattle.rules.proofs.check.header_fault.Reads as header-fault-reads
 
 header-fault-requires : tie.Need-header-fault-requires
 header-fault-requires c κs = search needs
@@ -21,7 +17,7 @@ returns c = sym (checked-header-refused (c .before .before .before .args .input 
 
 -- a header with no fault is there whole
 long : (c : tie.Else1) → 5 ≤ length (c .before .before .before .args .input .now)
-long c = header-sound (c .before .before .before .args .input .now) (sym (c .before .header-fault .ensures) ∙ c .if1 .left) .0
+long c = header-long (c .before .before .before .args .input .now) (sym (c .before .header-fault .ensures) ∙ c .if1 .left)
 
 shared-slice-read-v : tie.Need-shared-slice-read-v
 shared-slice-read-v c = omega (arith, long (c .before))

@@ -1,23 +1,17 @@
 -- `rules::check::check_fields` meets its contract. The loop: what is left to read from `at` on gives the whole verdict; the measure is the bytes left. Assumes nothing.
 use mathlib.Core.Path.{_≡_, refl, sym, ap, _∙_}
 use Prim.Native.Nat.{ℕ, _+_, _-_, _≤_}
-use mathlib.Core.List.{List}
 use native.Mathlib.Omega.{arith}
 use lib.ListN.{length, drop}
 use borrow.Author.Needs.{needs}
-use Rattle.rules.specs.declared.check.Checked.{Checked}
 use Rattle.rules.specs.declared.field.Head.{Head}
-use Rattle.rules.specs.Reading.{readFields, fieldFault, headOf, sizeOf}
+use Rattle.rules.specs.Reading.{readFields, fieldFault, sizeOf}
 use Rattle.rules.specs.Checked.{checkedOf}
 use Rattle.rules.proofs.ByteLaws.{rest-part}
 use Rattle.rules.proofs.ReadingLaws.{size-least}
-use Rattle.rules.proofs.CheckLaws.{checked-refused, checked-on, checked-end, field-whole}
+use Rattle.rules.proofs.CheckLaws.{checked-refused, checked-on, checked-end, next-within}
 use Rattle.rules.proofs.check.check_fields.Statement.{statement}
 use Rattle.rules.proofs.check.check_fields.Tie as tie
-use Rattle.rules.proofs.check.check_fields.Reads as reads
-use Rattle.rules.proofs.check.check_fields.Lts as lts
-use Rattle.rules.proofs.check.field_fault.Reads as field-fault-reads
-use Rattle.rules.proofs.field.head_at.Reads as head-at-reads
 
 abbrev Inv-loop : tie.InvT-loop
 Inv-loop input v n at₀ at = (at ≤ length input) × (checkedOf (readFields (length input) v n 5 (drop 5 input)) ≡ checkedOf (readFields (length input) v n at (drop at input)))
@@ -60,7 +54,7 @@ whole : (c : tie.After-field-fault Inv-loop μ-loop) → c .field-fault .result 
 whole c e =
     let here = c .before .before .before in
     let a = here .before .before .args in
-    field-whole (a .v) (a .n) (here .loop .at) (a .input .now) (omega arith) (sym (fault-here c) ∙ e)
+    next-within (a .v) (a .n) (here .loop .at) (a .input .now) (omega arith) (sym (fault-here c) ∙ e)
 
 -- the next place is still within the bytes, and it is the field's end
 further : (c : tie.After-struct-known Inv-loop μ-loop)

@@ -1,19 +1,11 @@
 -- `rules::check::content_fault` meets its contract: kind by kind. Assumes nothing.
-use mathlib.Core.Path.{_≡_, refl, sym, ap, _∙_}
-use Prim.Native.Nat.{ℕ}
-use mathlib.Core.Bool.{Bool, true}
-use native.Mathlib.Omega.{arith}
+use mathlib.Core.Path.{sym, ap, _∙_}
 use Rattle.rules.specs.declared.field.Tag.{Tag}
-use Rattle.rules.specs.declared.field.Tag.the-variants.{Equality}
 use Rattle.rules.specs.Reading.{lengthFits, ruleOf, ruleFault, atomsFault}
 use Rattle.rules.proofs.FieldLaws.{equality-length}
 use borrow.Author.Needs.{needs}
 use Rattle.rules.proofs.check.content_fault.Statement.{statement}
 use Rattle.rules.proofs.check.content_fault.Tie as tie
-use Rattle.rules.proofs.check.content_fault.Reads as reads
-use Rattle.rules.proofs.check.content_fault.Lts as lts
-use Rattle.rules.proofs.check.atoms_fault.Reads as atoms-fault-reads
-use Rattle.rules.proofs.check.equality_fault.Reads as equality-fault-reads
 
 enum-told : tie.Need-enum-told
 enum-told c = search needs

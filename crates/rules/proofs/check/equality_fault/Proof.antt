@@ -1,5 +1,5 @@
 -- `rules::check::equality_fault` meets its contract: the set before the positions. Assumes nothing.
-use mathlib.Core.Path.{_≡_, refl, sym, ap, ap₂, _∙_}
+use mathlib.Core.Path.{ap, ap₂, _∙_}
 use Prim.Native.Nat.{ℕ, _-_}
 use mathlib.Core.List.{List}
 use lib.ListN.{take}
@@ -8,12 +8,6 @@ use Rattle.rules.proofs.ByteLaws.{rest-part}
 use borrow.Author.Needs.{needs}
 use Rattle.rules.proofs.check.equality_fault.Statement.{statement}
 use Rattle.rules.proofs.check.equality_fault.Tie as tie
-use Rattle.rules.proofs.check.equality_fault.Reads as reads
-use Rattle.rules.proofs.check.equality_fault.Lts as lts
-use Rattle.rules.proofs.check.first_of.Reads as first-of-reads
-use Rattle.rules.proofs.check.positions_fault.Reads as positions-fault-reads
-use Rattle.rules.proofs.check.set_fault.Reads as set-fault-reads
-use Rattle.rules.proofs.field.set_at.Reads as set-at-reads
 
 set-at-requires : tie.Need-set-at-requires
 set-at-requires c κs = search needs

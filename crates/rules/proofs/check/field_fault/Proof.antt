@@ -1,7 +1,5 @@
 -- `rules::check::field_fault` meets its contract: a head that is cut, then the tag, then what stands behind it. Assumes nothing.
-use mathlib.Core.Path.{_≡_, refl, sym, ap, ap₂, _∙_}
-use Prim.Native.Nat.{ℕ}
-use mathlib.Core.List.{List}
+use mathlib.Core.Path.{sym, ap, ap₂, _∙_}
 use native.Mathlib.Omega.{arith}
 use Rattle.rules.specs.declared.field.Head.{Head}
 use Rattle.rules.specs.Reading.{orElse, contentOf}
@@ -11,12 +9,6 @@ use Rattle.rules.proofs.FieldLaws.{field-cut, field-head}
 use borrow.Author.Needs.{needs}
 use Rattle.rules.proofs.check.field_fault.Statement.{statement}
 use Rattle.rules.proofs.check.field_fault.Tie as tie
-use Rattle.rules.proofs.check.field_fault.Reads as reads
-use Rattle.rules.proofs.check.field_fault.Lts as lts
-use Rattle.rules.proofs.check.body_fault.Reads as body-fault-reads
-use Rattle.rules.proofs.check.first_of.Reads as first-of-reads
-use Rattle.rules.proofs.check.tag_fault.Reads as tag-fault-reads
-use Rattle.rules.proofs.field.head_at.Reads as head-at-reads
 
 returns : tie.Need-returns
 returns c = field-cut (c .before .before .args .v) (c .before .before .args .n) (c .before .before .args .bytes .now) (c .if1 .taken)

@@ -4,8 +4,6 @@ use Rattle.rules.proofs.FaultLaws.{first-fault}
 use borrow.Author.Needs.{needs}
 use Rattle.rules.proofs.check.first_of.Statement.{statement}
 use Rattle.rules.proofs.check.first_of.Tie as tie
-use Rattle.rules.proofs.check.first_of.Reads as reads
-use Rattle.rules.proofs.check.first_of.Lts as lts
 
 returns : tie.Need-returns
 returns c = first-fault (c .before .args .first) (c .before .args .second) refl (c .if1 .taken)

@@ -1,17 +1,12 @@
 -- `rules::check::header_body_fault` meets its contract: test by test. Assumes nothing.
-use mathlib.Core.Path.{_≡_, refl, sym, ap, _∙_}
-use Prim.Native.Nat.{ℕ}
+use mathlib.Core.Path.{sym, _∙_}
 use mathlib.Core.Bool.{true, false}
 use native.Mathlib.Omega.{arith}
-use lib.ListN.{getD}
 use borrow.Author.Tests.{not-true, not-false}
 use Rattle.rules.proofs.HeaderLaws.{header-length, header-missing, header-outside, header-fits, limits-positions, limits-values}
 use borrow.Author.Needs.{needs}
 use Rattle.rules.proofs.check.header_body_fault.Statement.{statement}
 use Rattle.rules.proofs.check.header_body_fault.Tie as tie
-use Rattle.rules.proofs.check.header_body_fault.Reads as reads
-use Rattle.rules.proofs.check.header_body_fault.Lts as lts
-use Rattle.rules.proofs.check.within.Reads as within-reads
 
 returns : tie.Need-returns
 returns c = header-length (c .before .before .args .len) (c .before .before .args .input .now) (c .if1 .taken)

@@ -1,19 +1,13 @@
 -- `rules::check::header_fault` meets its contract: test by test. Assumes nothing.
-use mathlib.Core.Path.{_≡_, refl, sym, ap, _∙_}
-use mathlib.Core.Bool.{Bool}
+use mathlib.Core.Path.{sym, ap, _∙_}
 use native.Mathlib.Omega.{arith}
-use Rattle.rules.specs.declared.field.Tag.{Tag}
 use Rattle.rules.specs.declared.field.Head.{Head}
-use Rattle.rules.specs.Reading.{isHeader, headOf}
+use Rattle.rules.specs.Reading.{isHeader}
 use Rattle.rules.specs.Checked.{headerBodyFault}
 use Rattle.rules.proofs.HeaderLaws.{header-empty, header-cut, header-other, header-body}
 use borrow.Author.Needs.{needs}
 use Rattle.rules.proofs.check.header_fault.Statement.{statement}
 use Rattle.rules.proofs.check.header_fault.Tie as tie
-use Rattle.rules.proofs.check.header_fault.Reads as reads
-use Rattle.rules.proofs.check.header_fault.Lts as lts
-use Rattle.rules.proofs.check.header_body_fault.Reads as header-body-fault-reads
-use Rattle.rules.proofs.field.head_at.Reads as head-at-reads
 
 returns : tie.Need-returns
 returns c = header-empty (c .before .before .args .input .now) (c .if1 .taken)

@@ -1,5 +1,5 @@
 -- `rules::check::length_fits` meets its contract: kind by kind. Assumes nothing.
-use mathlib.Core.Path.{_≡_, refl, sym, ap, _∙_}
+use mathlib.Core.Path.{sym, ap, _∙_}
 use Prim.Native.Nat.{ℕ}
 use mathlib.Core.Bool.{Bool, _&&_}
 use lib.Dec.{leb}
@@ -9,8 +9,6 @@ use Rattle.rules.specs.Reading.{lengthFits}
 use borrow.Author.Needs.{needs}
 use Rattle.rules.proofs.check.length_fits.Statement.{statement}
 use Rattle.rules.proofs.check.length_fits.Tie as tie
-use Rattle.rules.proofs.check.length_fits.Reads as reads
-use Rattle.rules.proofs.check.length_fits.Lts as lts
 
 enum-told : tie.Need-enum-told
 enum-told c = search needs

@@ -1,14 +1,11 @@
 -- `rules::check::position_fault` meets its contract. Assumes nothing.
-use mathlib.Core.Path.{_≡_, refl, sym, ap, _∙_}
-use mathlib.Core.Bool.{Bool, not}
+use mathlib.Core.Path.{sym, ap, _∙_}
+use mathlib.Core.Bool.{not}
 use Rattle.rules.specs.Reading.{positionFault}
 use Rattle.rules.proofs.FaultLaws.{fault-so, fault-not}
 use borrow.Author.Needs.{needs}
 use Rattle.rules.proofs.check.position_fault.Statement.{statement}
 use Rattle.rules.proofs.check.position_fault.Tie as tie
-use Rattle.rules.proofs.check.position_fault.Reads as reads
-use Rattle.rules.proofs.check.position_fault.Lts as lts
-use Rattle.rules.proofs.check.within.Reads as within-reads
 
 within-requires : tie.Need-within-requires
 within-requires c κs = search needs

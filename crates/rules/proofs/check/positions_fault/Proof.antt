@@ -1,16 +1,12 @@
 -- `rules::check::positions_fault` meets its contract. The loop: what is left to find from `at` on is the whole; the measure is the bytes left. Assumes nothing.
-use mathlib.Core.Path.{_≡_, refl, sym, ap, _∙_}
+use mathlib.Core.Path.{_≡_, sym, ap, _∙_}
 use Prim.Native.Nat.{ℕ, _+_, _-_, _≤_}
 use native.Mathlib.Omega.{arith}
-use lib.ListN.{length, getD, take, drop}
-use lib.Seq.{drop-drop}
-use Rattle.rules.specs.Reading.{orElse, positionFault, positionsFault}
+use lib.ListN.{take, drop}
+use Rattle.rules.specs.Reading.{orElse, positionsFault}
 use Rattle.rules.proofs.FaultLaws.{first-fault, later-fault, positions-scan}
 use Rattle.rules.proofs.check.positions_fault.Statement.{statement}
 use Rattle.rules.proofs.check.positions_fault.Tie as tie
-use Rattle.rules.proofs.check.positions_fault.Reads as reads
-use Rattle.rules.proofs.check.positions_fault.Lts as lts
-use Rattle.rules.proofs.check.position_fault.Reads as position-fault-reads
 
 abbrev Inv-loop : tie.InvT-loop
 Inv-loop bytes count v at₀ at = (at ≤ count) × (positionsFault v (take count bytes) ≡ positionsFault v (take (count - at) (drop at bytes)))

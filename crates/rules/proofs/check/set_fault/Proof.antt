@@ -1,17 +1,12 @@
 -- `rules::check::set_fault` meets its contract. Assumes nothing.
-use mathlib.Core.Path.{_≡_, refl, sym, ap, _∙_}
-use Prim.Native.Nat.{ℕ}
-use mathlib.Core.Bool.{Bool, not}
+use mathlib.Core.Path.{sym, ap, _∙_}
+use mathlib.Core.Bool.{not}
 use Rattle.sets.specs.Sets.{inside}
 use Rattle.rules.specs.Reading.{setFault}
 use Rattle.rules.proofs.FaultLaws.{fault-so, fault-not}
 use borrow.Author.Needs.{needs}
 use Rattle.rules.proofs.check.set_fault.Statement.{statement}
 use Rattle.rules.proofs.check.set_fault.Tie as tie
-use Rattle.rules.proofs.check.set_fault.Reads as reads
-use Rattle.rules.proofs.check.set_fault.Lts as lts
-use Rattle.sets.proofs.Room.full.Reads as full-reads
-use Rattle.sets.proofs.Room.inside.Reads as inside-reads
 
 full-requires : tie.Need-full-requires
 full-requires c κs = search needs

@@ -1,12 +1,10 @@
 -- `rules::check::tag_fault` meets its contract: kind by kind. Assumes nothing.
-use mathlib.Core.Path.{_≡_, refl, sym, ap, _∙_}
+use mathlib.Core.Path.{sym, ap}
 use Rattle.rules.specs.Reading.{isHeader, isUnknown}
 use Rattle.rules.specs.Checked.{tagFault}
 use borrow.Author.Needs.{needs}
 use Rattle.rules.proofs.check.tag_fault.Statement.{statement}
 use Rattle.rules.proofs.check.tag_fault.Tie as tie
-use Rattle.rules.proofs.check.tag_fault.Reads as reads
-use Rattle.rules.proofs.check.tag_fault.Lts as lts
 
 enum-told : tie.Need-enum-told
 enum-told c = search needs

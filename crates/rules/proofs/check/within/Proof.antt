@@ -1,12 +1,10 @@
 -- `rules::check::within` meets its contract. Assumes nothing.
-use mathlib.Core.Path.{_≡_, refl, sym, ap, _∙_}
+use mathlib.Core.Path.{sym, ap}
 use mathlib.Core.Bool.{Bool, _&&_}
 use lib.Dec.{leb}
 use borrow.Author.Tests.{le-leb, lt-leb}
 use Rattle.rules.proofs.check.within.Statement.{statement}
 use Rattle.rules.proofs.check.within.Tie as tie
-use Rattle.rules.proofs.check.within.Reads as reads
-use Rattle.rules.proofs.check.within.Lts as lts
 
 returns : tie.Need-returns
 returns c = sym (ap (λ (t : Bool). t && leb (c .before .args .x) (c .before .args .high)) (le-leb 1 (c .before .args .x) (c .if1 .taken)))

@@ -1,16 +1,11 @@
 -- `rules::field::atom_at` meets its contract. Assumes nothing.
-use mathlib.Core.Path.{_≡_, refl, sym, ap, _∙_}
-use Prim.Native.Nat.{ℕ, _+_}
+use mathlib.Core.Path.{sym, _∙_}
 use native.Mathlib.Omega.{arith}
 use lib.ListN.{getD}
-use Rattle.rules.specs.declared.field.Atom.{Atom}
 use Rattle.rules.proofs.ByteLaws.{atom-drop}
 use borrow.Author.Needs.{needs}
 use Rattle.rules.proofs.field.atom_at.Statement.{statement}
 use Rattle.rules.proofs.field.atom_at.Tie as tie
-use Rattle.rules.proofs.field.atom_at.Reads as reads
-use Rattle.rules.proofs.field.atom_at.Lts as lts
-use Rattle.rules.proofs.field.set_at.Reads as set-at-reads
 
 shared-slice-read-position : tie.Need-shared-slice-read-position
 shared-slice-read-position c = search needs

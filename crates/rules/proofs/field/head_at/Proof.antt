@@ -1,17 +1,9 @@
 -- `rules::field::head_at` meets its contract. Assumes nothing.
-use mathlib.Core.Path.{_≡_, refl, sym, ap, _∙_}
-use Prim.Native.Nat.{ℕ, _+_}
-use native.Mathlib.Omega.{arith}
-use lib.ListN.{getD}
-use Rattle.rules.specs.declared.field.Head.{Head}
+use mathlib.Core.Path.{sym, _∙_}
 use Rattle.rules.proofs.ByteLaws.{head-drop}
 use borrow.Author.Needs.{needs}
 use Rattle.rules.proofs.field.head_at.Statement.{statement}
 use Rattle.rules.proofs.field.head_at.Tie as tie
-use Rattle.rules.proofs.field.head_at.Reads as reads
-use Rattle.rules.proofs.field.head_at.Lts as lts
-use Rattle.rules.proofs.field.tag_of.Reads as tag-of-reads
-use Rattle.rules.proofs.field.two_at.Reads as two-at-reads
 
 shared-slice-read-tag-of : tie.Need-shared-slice-read-tag-of
 shared-slice-read-tag-of c = search needs

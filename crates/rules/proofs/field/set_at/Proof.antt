@@ -8,9 +8,6 @@ use Rattle.rules.specs.Reading.{lengthAt, setAt}
 use borrow.Author.Needs.{needs}
 use Rattle.rules.proofs.field.set_at.Statement.{statement}
 use Rattle.rules.proofs.field.set_at.Tie as tie
-use Rattle.rules.proofs.field.set_at.Reads as reads
-use Rattle.rules.proofs.field.set_at.Lts as lts
-use Rattle.rules.proofs.field.two_at.Reads as two-at-reads
 
 two-at-requires : tie.Need-two-at-requires
 two-at-requires c κs = search needs

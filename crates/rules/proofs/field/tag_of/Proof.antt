@@ -1,14 +1,9 @@
 -- `rules::field::tag_of` meets its contract: arm by arm. Assumes nothing.
-use mathlib.Core.Path.{_≡_, refl, sym, ap, _∙_}
-use Prim.Native.Nat.{ℕ}
-use native.Mathlib.Omega.{arith}
-use Rattle.rules.specs.declared.field.Tag.the-variants.{Header, Clause, Equality, Unknown}
+use mathlib.Core.Path.{sym, ap}
 use Rattle.rules.specs.Reading.{tagOf}
 use Rattle.rules.proofs.ByteLaws.{tag-unknown}
 use Rattle.rules.proofs.field.tag_of.Statement.{statement}
 use Rattle.rules.proofs.field.tag_of.Tie as tie
-use Rattle.rules.proofs.field.tag_of.Reads as reads
-use Rattle.rules.proofs.field.tag_of.Lts as lts
 
 returns : tie.Need-returns
 unfolding tagOf

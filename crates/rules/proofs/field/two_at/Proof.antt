@@ -6,8 +6,6 @@ use Rattle.rules.specs.Reading.{lengthAt}
 use borrow.Author.Needs.{needs}
 use Rattle.rules.proofs.field.two_at.Statement.{statement}
 use Rattle.rules.proofs.field.two_at.Tie as tie
-use Rattle.rules.proofs.field.two_at.Reads as reads
-use Rattle.rules.proofs.field.two_at.Lts as lts
 
 shared-slice-read-high : tie.Need-shared-slice-read-high
 shared-slice-read-high c = search needs

@@ -1,6 +1,6 @@
 -- `sets::Room::smallest` meets its contract: the zeros below the lowest one stand for the values that are missing. Assumes nothing.
 use mathlib.Core.Path.{sym, ap, _∙_}
-use Prim.Native.Nat.{ℕ, _+_}
+use Prim.Native.Nat.{ℕ}
 use native.Mathlib.Nat.{add-comm}
 use native.Mathlib.Omega.{arith}
 use lib.Count.{trailingZeros, trailing-le}
