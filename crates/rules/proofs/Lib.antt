@@ -12,4 +12,5 @@ pub mod ReadingLaws
 pub mod RoundTrip
 pub mod SoundLaws
 pub mod Unique
+pub mod WalkLaws
 pub mod WrittenLaws

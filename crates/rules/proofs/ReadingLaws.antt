@@ -7,8 +7,8 @@ use native.Mathlib.Nat.{not-suc-le-zero, eq-zero-or-pos}
 use native.Mathlib.Omega.{arith}
 use lib.ListN.{length, drop, length-drop}
 use lib.Seq.{drop-drop}
-use Rattle.rules.specs.Rules.{Field}
-use Rattle.rules.specs.Reading.{Reading, sound, refuseFor, withField, fieldFault, ruleAt, sizeOf, readFields}
+use Rattle.rules.specs.Rules.{Field, File}
+use Rattle.rules.specs.Reading.{Reading, sound, refused, refuseFor, withField, fieldFault, ruleAt, sizeOf, readFields}
 
 -- the field that the bytes at a place start with
 abbrev pub fieldAt : ℕ → List ℕ → Field
@@ -49,6 +49,19 @@ read-enough (suc k) (suc j) v n place bytes hk hj =
     (read-enough k j v n (place + sizeOf bytes) (drop (sizeOf bytes) bytes) (field-shortens k bytes hk) (field-shortens j bytes hj))
     ∙ sym (read-step j v n place bytes h))
     (eq-zero-or-pos (length bytes))
+
+-- ---- readings that are sound
+
+-- a reading that did not refuse had no fault, and went on
+pub refuse-for-sound : (fault place : ℕ) (rest : Unit {0} → Reading) (file : File) → refuseFor fault place rest ≡ sound file → (fault ≡ 0) × (rest tt ≡ sound file)
+refuse-for-sound zero place rest file e = (refl, e)
+refuse-for-sound (suc number) place rest file e = let z : _≡_ {A = ℕ} 0 1 = cc in absurd (omega arith)
+
+-- a sound reading with a field in front was sound behind it
+pub with-field-sound : (f : Field) (found : Reading) (file : File) → withField f found ≡ sound file
+    → (later : File) × (found ≡ sound later) × (record { v = later .v; n = later .n; fields = f ∷ later .fields } ≡ file)
+with-field-sound f (sound later) file e = (later, refl, cc)
+with-field-sound f (refused number place) file e = let z : _≡_ {A = ℕ} 0 1 = cc in absurd (omega arith)
 
 -- ---- walking over the bytes of a whole file
 

@@ -8,9 +8,9 @@ use lib.ListN.{length, getD, drop, length-append, length-drop}
 use lib.Seq.{drop-append-seam}
 use Rattle.rules.specs.Lists.{Every}
 use Rattle.rules.specs.Rules.{Field, File}
-use Rattle.rules.specs.Reading.{tagOf, lengthAt, headOf, contentOf, isHeader, fieldFault, ruleAt, headerFault, Reading, sound, refused, refuseFor, withField, sizeOf, readFields, reading}
+use Rattle.rules.specs.Reading.{tagOf, lengthAt, headOf, contentOf, isHeader, fieldFault, ruleAt, headerFault, Reading, sound, refused, sizeOf, readFields, reading}
 use Rattle.rules.specs.Writing.{writtenRule, writtenFields, written, RuleFits, Placed, Within}
-use Rattle.rules.proofs.ReadingLaws.{fieldAt, read-done, read-step, field-shortens}
+use Rattle.rules.proofs.ReadingLaws.{refuse-for-sound, with-field-sound, fieldAt, read-done, read-step, field-shortens}
 use Rattle.rules.proofs.SoundLaws.{SoundField, SoundHeader, field-fault-none, header-fault-none}
 use Rattle.rules.proofs.FrameLaws.{Byte, by-front, bytes-drop, header-tag}
 use Rattle.rules.proofs.WrittenLaws.{written-long, rule-of-written, size-of-written, fault-of-written, rule-of-read, size-of-read, fits-of-read}
@@ -32,15 +32,6 @@ fields-of-written (f ∷ fs) (suc k) v n place h fits placed =
     ∙ rw (fault-of-written r rest v n (fits .0), rule-of-written r rest, size-of-written r rest, drop-append-seam, later, ← (placed .0))
 
 -- ---- fields that were read are written back
-
-refuse-for-sound : (fault place : ℕ) (rest : Unit {0} → Reading) (file : File) → refuseFor fault place rest ≡ sound file → (fault ≡ 0) × (rest tt ≡ sound file)
-refuse-for-sound zero place rest file e = (refl, e)
-refuse-for-sound (suc number) place rest file e = let z : _≡_ {A = ℕ} 0 1 = cc in absurd (omega arith)
-
-with-field-sound : (f : Field) (found : Reading) (file : File) → withField f found ≡ sound file
-    → (later : File) × (found ≡ sound later) × (record { v = later .v; n = later .n; fields = f ∷ later .fields } ≡ file)
-with-field-sound f (sound later) file e = (later, refl, cc)
-with-field-sound f (refused number place) file e = let z : _≡_ {A = ℕ} 0 1 = cc in absurd (omega arith)
 
 -- the bytes from a place on are the fields of the file written, each within the limits and at its place
 record FieldsRead (v n place : ℕ) (bytes : List ℕ) (file : File) : Type 0 where

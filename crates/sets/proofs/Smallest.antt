@@ -1,7 +1,7 @@
 -- Laws of the smallest value of a set, and of a set without it. Assumes nothing.
-use mathlib.Core.Path.{_≡_, refl, sym, ap, _∙_, subst}
-use mathlib.Core.Logic.{_↔_, ⊎-elim}
-use mathlib.Core.List.{List, [], _∷_, List·Memᴰ, List·Memᴰ·head, List·Memᴰ·not-nil, List·Memᴰ·cases-cons}
+use mathlib.Core.Path.{_≡_, refl, sym, ap, ap₂, _∙_, subst}
+use mathlib.Core.Logic.{_↔_, _⊎_, inl, inr, ⊎-elim}
+use mathlib.Core.List.{List, [], _∷_, List·Memᴰ, List·Memᴰ·head, List·Memᴰ·tail, List·Memᴰ·not-nil, List·Memᴰ·cases-cons}
 use Prim.Native.Nat.{ℕ, zero, suc, _+_, _/_, _%_, _^_, _≤_, _<_}
 use native.Mathlib.Nat.{mod-lt, zero-lt-suc, add-suc, suc-add, add-zero, div-add-mod'}
 use native.Mathlib.Decide.{ℕ-discrete}
@@ -129,3 +129,61 @@ unfolding others
 count-others m h ne =
     count-part (single (smallest m)) m (single-below (smallest m)) h (single-inside m (smallest m) (smallest-member m h ne))
     ∙ ap (λ (n : ℕ). n + count (others m)) (count-of-single (smallest m) (smallest-range m h ne .0) (smallest-range m h ne .1))
+
+-- ---- the list of values, its first and the others
+
+-- two rising lists with the same elements are the same
+rising-extensional : (low : ℕ) (xs ys : List ℕ) → rising low xs → rising low ys → ((y : ℕ) → List·Memᴰ y xs → List·Memᴰ y ys) → ((y : ℕ) → List·Memᴰ y ys → List·Memᴰ y xs) → xs ≡ ys
+unfolding rising
+rising-extensional low [] [] r t f g = refl
+rising-extensional low [] (y ∷ ys) r t f g = absurd (List·Memᴰ·not-nil (g y (List·Memᴰ·head refl)))
+rising-extensional low (x ∷ xs) [] r t f g = absurd (List·Memᴰ·not-nil (f x (List·Memᴰ·head refl)))
+rising-extensional low (x ∷ xs) (y ∷ ys) r t f g =
+    ap₂ (λ (z : ℕ) (zs : List ℕ). z ∷ zs) same
+    (rising-extensional x xs ys (r .1) (subst (λ (z : ℕ). rising z ys) (sym same) (t .1))
+    (λ z m. behind x y ys z (rising-above x xs (r .1) m) same (List·Memᴰ·cases-cons (f z (List·Memᴰ·tail m))))
+    (λ z m. behind y x xs z (rising-above y ys (t .1) m) (sym same) (List·Memᴰ·cases-cons (g z (List·Memᴰ·tail m)))))
+  where
+    at-least : (z w : ℕ) (zs : List ℕ) → rising z zs → (w ≡ z) ⊎ List·Memᴰ w zs → z ≤ w
+    at-least z w zs h (inl e) = omega arith
+    at-least z w zs h (inr m) = let l = rising-above z zs h m in omega arith
+
+    same : x ≡ y
+    same =
+        let l = at-least y x ys (t .1) (List·Memᴰ·cases-cons (f x (List·Memᴰ·head refl))) in
+        let k = at-least x y xs (r .1) (List·Memᴰ·cases-cons (g y (List·Memᴰ·head refl))) in
+        omega arith
+
+    behind : (z w : ℕ) (ws : List ℕ) (u : ℕ) → z < u → z ≡ w → (u ≡ w) ⊎ List·Memᴰ u ws → List·Memᴰ u ws
+    behind z w ws u l e (inl d) = absurd (omega arith)
+    behind z w ws u l e (inr m) = m
+
+rising-from : (low : ℕ) (xs : List ℕ) → ((y : ℕ) → List·Memᴰ y xs → low < y) → rising 0 xs → rising low xs
+unfolding rising
+rising-from low [] f r = tt
+rising-from low (x ∷ xs) f r = (f x (List·Memᴰ·head refl), r .1)
+
+rising-others : (m : ℕ) → m < 2 ^ 32 → (m ≡ 0 → ⊥) → rising 0 (smallest m ∷ values (others m))
+unfolding rising
+rising-others m h ne =
+    (smallest-range m h ne .0, rising-from (smallest m) (values (others m)) (λ y t. others-above m y h ne (member-of-listed (others m) y t)) (values-rising (others m)))
+
+-- the values of a set that is not empty: the smallest, then the others
+pub values-others : (m : ℕ) → m < 2 ^ 32 → (m ≡ 0 → ⊥) → values m ≡ smallest m ∷ values (others m)
+values-others m h ne = rising-extensional 0 (values m) (smallest m ∷ values (others m)) (values-rising m) (rising-others m h ne) forth back
+  where
+    forth : (y : ℕ) → List·Memᴰ y (values m) → List·Memᴰ y (smallest m ∷ values (others m))
+    forth y t = among (ℕ-discrete y (smallest m))
+      where
+        among : Dec (y ≡ smallest m) → List·Memᴰ y (smallest m ∷ values (others m))
+        among (yes e) = List·Memᴰ·head e
+        among (no d) = List·Memᴰ·tail (listed-of-member (others m) y (others-below m h) (member-others m y h ne .1 (member-of-listed m y t, d)))
+
+    back : (y : ℕ) → List·Memᴰ y (smallest m ∷ values (others m)) → List·Memᴰ y (values m)
+    back y t =
+        ⊎-elim (λ (e : y ≡ smallest m). listed-of-member m y h (subst (λ (z : ℕ). member z m) (sym e) (smallest-member m h ne)))
+        (λ u. listed-of-member m y h (member-others m y h ne .0 (member-of-listed (others m) y u) .0)) (List·Memᴰ·cases-cons t)
+
+pub values-of-empty : values 0 ≡ []
+unfolding values valuesFrom
+values-of-empty = refl

@@ -1,0 +1,23 @@
+// The line that is printed for one file.
+use libc::STDOUT_FILENO;
+use rules::check::Checked;
+use rules::check::check;
+
+// Checks a file and prints its line, which starts with the file's number in the list.
+pub fn show(number: u32, file: &[u8]) {
+    io::print_decimal(STDOUT_FILENO, number as u64);
+    let reply = check(file);
+    match reply {
+        Checked::Sound { positions, values } => rest(b" SOUND ", positions as u64, values as u64),
+        Checked::Refused { number, place } => rest(b" REFUSED ", number as u64, place as u64),
+    }
+}
+
+// The rest of a line: the verdict with a space on both sides, and its two numbers.
+fn rest(verdict: &[u8], first: u64, second: u64) {
+    io::write_all(STDOUT_FILENO, verdict);
+    io::print_decimal(STDOUT_FILENO, first);
+    io::write_all(STDOUT_FILENO, b" ");
+    io::print_decimal(STDOUT_FILENO, second);
+    io::write_all(STDOUT_FILENO, b"\n");
+}
