@@ -1,1 +1,12 @@
+pub mod Allowance
+pub mod BoxLaws
+pub mod BoxSizes
+pub mod ClauseLaws
+pub mod Depth
+pub mod InTurn
+pub mod LiveLaws
+pub mod RuleLaws
+pub mod SearchCases
+pub mod SearchLaws
+pub mod ShrinkLaws
 pub mod StarredCases

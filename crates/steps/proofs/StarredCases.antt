@@ -1,7 +1,5 @@
 -- 01's twelve starred cases hold, by computation: the bytes are read, searched and answered by the definitions. Assumes nothing.
 use mathlib.Core.Path.{_≡_, refl}
-use mathlib.Core.List.{List}
-use lib.Bits.{bitAnd}
 use Rattle.sets.specs.Sets.{full, single, union, common, complement, inRange, onlyIf, isEmpty, inside, listedIf, valuesFrom, values, count, firstOf, smallest, beside, others}
 use Rattle.rules.specs.Lists.{Every}
 use Rattle.rules.specs.Reading.{tagOf, lengthAt, setAt, atomOf, headOf, contentOf, atomsOf, ruleOf, lengthFits, isHeader, isUnknown, positionFault, setFault, atomFault, atomsFault, positionsFault, ruleFault, ruleAt, fieldFault, limitsFit, headerFault, sizeOf, readFields, reading}

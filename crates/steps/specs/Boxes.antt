@@ -1,9 +1,9 @@
 -- Boxes of rooms: the values still open for each position. Assumes nothing.
-use Prim.Native.Nat.{ℕ, zero, suc, _+_, _*_, _-_, _<_}
+use Prim.Native.Nat.{ℕ, _+_, _*_, _-_, _<_}
 use mathlib.Core.Path.{_≡_}
 use mathlib.Core.List.{List, [], _∷_, map}
 use lib.Dec.{T}
-use lib.ListN.{length, getD, set, replicate}
+use lib.ListN.{getD, set, replicate}
 use Rattle.sets.specs.Sets.{member, full, single, inside, count, smallest, others}
 use Prim.Native.Nat.{_^_}
 use Rattle.rules.specs.Lists.{Every}

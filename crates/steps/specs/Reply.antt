@@ -1,7 +1,6 @@
 -- The reply of a call, by 01's table: input, buffer length and allowance to number, place, splits, dead ends and values. Assumes nothing.
-use Prim.Native.Nat.{ℕ, zero, suc}
-use mathlib.Core.Bool.{Bool, true, false}
-use mathlib.Core.List.{List, [], _∷_}
+use Prim.Native.Nat.{ℕ}
+use mathlib.Core.List.{List, []}
 use lib.Dec.{ltb}
 use lib.ListN.{length}
 use Rattle.rules.specs.Rules.{File}

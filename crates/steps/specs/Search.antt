@@ -1,13 +1,13 @@
 -- Steps 3 and 4 of the search: dead ends, plans, splits. Assumes nothing.
 use Prim.Native.Nat.{ℕ, zero, suc, _+_}
-use mathlib.Core.Bool.{Bool, true, false}
+use mathlib.Core.Bool.{true, false}
 use mathlib.Core.List.{List, [], _∷_}
 use lib.Dec.{leb}
 use lib.ListN.{length}
 use Rattle.sets.specs.Sets.{count}
 use Rattle.rules.specs.Rules.{Field}
 use Rattle.steps.specs.Boxes.{openValues, smallestOf, firstHalf, otherHalf}
-use Rattle.steps.specs.Shrinking.{Look, ifAlive, ifTest, shrunk, settled}
+use Rattle.steps.specs.Shrinking.{ifAlive, ifTest, shrunk, settled}
 
 -- what a search answers
 pub data Answer : Type 0 where
