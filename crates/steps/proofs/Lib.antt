@@ -2,9 +2,11 @@ pub mod Allowance
 pub mod BoxLaws
 pub mod BoxSizes
 pub mod ClauseLaws
+pub mod Demands
 pub mod Depth
 pub mod InTurn
 pub mod LiveLaws
+pub mod OrderOfCutting
 pub mod RuleLaws
 pub mod SearchCases
 pub mod SearchLaws

@@ -7,7 +7,7 @@ use Rattle.rules.specs.Rules.{File}
 use Rattle.rules.specs.Reading.{Reading, sound, refused, reading}
 use Rattle.steps.specs.Boxes.{startBox}
 use Rattle.steps.specs.Shrinking.{ifTest}
-use Rattle.steps.specs.Search.{Answer, plan, none, undecided, stalled, Outcome, searched}
+use Rattle.steps.specs.Search.{Answer, plan, none, undecided, stalled, Outcome, searched, explored}
 
 -- a reply: its number, place, splits and dead ends, and the values that a plan writes
 pub record Reply : Type 0 where
@@ -42,6 +42,10 @@ replied o = record { number = numberOf (o .answer); place = 0; splits = o .split
 -- the search of a file, from {1..n} everywhere
 unfoldable pub planned : File → ℕ → Outcome
 planned file allowed = searched (file .fields) allowed (startBox (file .v) (file .n))
+
+-- the splits that the search of a file needs: those of the search without an allowance
+unfoldable pub needed : File → ℕ
+needed file = explored (file .fields) (startBox (file .v) (file .n)) .splits
 
 unfoldable pub ofReading : Reading → ℕ → Reply
 ofReading (refused number place) allowed = refusal number place
