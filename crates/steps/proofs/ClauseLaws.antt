@@ -34,7 +34,7 @@ LiveIn atoms box p = (1 ≤ p) × (p ≤ length box) × T (isLive atoms p (roomA
 -- ---- what a look finds
 
 -- the look by the live positions: none, just one, or two and more
-data Looked (place : ℕ) (atoms : List Atom) (box : List ℕ) : Type 0 where
+pub data Looked (place : ℕ) (atoms : List Atom) (box : List ℕ) : Type 0 where
   none-live : ((p : ℕ) → LiveIn atoms box p → ⊥) → lookClause place atoms box ≡ dead place → Looked place atoms box
   one-live : (p : ℕ) → LiveIn atoms box p → ((q : ℕ) → LiveIn atoms box q → q ≡ p) → lookClause place atoms box ≡ alive (cut atoms p box)
       → Looked place atoms box
@@ -47,7 +47,7 @@ listed-live atoms box p =
     let listed = live-listed atoms 1 box p in
     (λ t. let h = listed .0 t in (h .0, omega arith, h .2), λ h. listed .1 (h .0, omega arith, h .2))
 
-looked : (place : ℕ) (atoms : List Atom) (box : List ℕ) → Looked place atoms box
+pub looked : (place : ℕ) (atoms : List Atom) (box : List ℕ) → Looked place atoms box
 unfolding lookClause lookBy rising
 looked place atoms box = go (liveFrom atoms 1 box) refl
   where

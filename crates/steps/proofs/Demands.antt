@@ -1,21 +1,25 @@
 -- The user's demands 2 and 3, of the search of a file that is within 01's limits. Assumes nothing.
-use mathlib.Core.Path.{_≡_, refl, sym, _∙_, subst}
+use mathlib.Core.Path.{_≡_, refl, sym, ap, _∙_, subst}
 use mathlib.Core.Logic.{_↔_, _⊎_, inl, inr}
 use mathlib.Core.List.{List}
 use Prim.Native.Nat.{ℕ, suc, _-_, _^_, _≤_, _<_}
 use native.Mathlib.Nat.{zero-add}
 use native.Mathlib.Decide.{decLe}
 use native.Mathlib.Omega.{arith}
-use lib.ListN.{length}
+use lib.Dec.{T}
+use lib.ListN.{length, getD}
 use Rattle.rules.specs.Rules.{File}
 use Rattle.rules.specs.Meaning.{Plan, FirstPlan}
 use Rattle.rules.specs.Writing.{Within}
 use Rattle.steps.specs.Boxes.{startBox, openValues, InBox, Rooms}
-use Rattle.steps.specs.Search.{Answer, plan, none, undecided, stalled, explored, searched}
+use Rattle.steps.specs.Search.{Answer, plan, none, undecided, stalled, Outcome, outcome, explored, searched}
+use Rattle.steps.specs.Shrinking.{Look, dead, alive, shrunk}
 use Rattle.steps.specs.Reply.{planned, needed}
+use Rattle.steps.specs.Special.{special, specialRules}
 use Rattle.steps.proofs.BoxSizes.{start-assignments, start-rooms, start-length, start-size}
 use Rattle.steps.proofs.ShrinkLaws.{FieldsFit}
 use Rattle.steps.proofs.SearchLaws.{FirstIn, Says, explore-says, explore-bound}
+use Rattle.steps.proofs.SpecialKind.{special-none, special-plan}
 use Rattle.steps.proofs.Allowance.{search-decides, search-undecided}
 
 -- the search's two ends: enough splits allowed, or not
@@ -156,3 +160,29 @@ module _ (file : File) (within : Within file) where
       go : Dec (needed file ≤ allowed) → planned file allowed .splits ≤ file .n ^ file .v - 1
       go (yes h) = let e = enough-allowed allowed h .1 in omega (arith, needed-bound)
       go (no g) = let e = too-few-allowed allowed (omega arith) .1 in omega (arith, needed-bound)
+
+  -- the special kind with v or more splits allowed: NONE at no split, or a plan at no dead end, at no position higher than any other plan
+  pub special-decides : (allowed : ℕ) → T (special file) → file .v ≤ allowed
+      → ((planned file allowed .answer ≡ none) × (planned file allowed .splits ≡ 0))
+      ⊎ ((a : List ℕ) × (planned file allowed .answer ≡ plan a) × (planned file allowed .deadEnds ≡ 0) × ((b : List ℕ) → Plan file b → (i : ℕ) → getD a i 0 ≤ getD b i 0))
+  unfolding special explored needed outcome
+  special-decides allowed kind h = go (shrunk (file .fields) (start file)) refl
+    where
+      depth : ℕ
+      depth = suc (openValues (start file))
+
+      kinds : T (specialRules (length (start file)) (file .fields))
+      kinds = subst (λ (v : ℕ). T (specialRules v (file .fields))) (sym (start-length (file .v) (file .n))) kind
+
+      go : (l : Look) → shrunk (file .fields) (start file) ≡ l
+          → ((planned file allowed .answer ≡ none) × (planned file allowed .splits ≡ 0))
+          ⊎ ((a : List ℕ) × (planned file allowed .answer ≡ plan a) × (planned file allowed .deadEnds ≡ 0) × ((b : List ℕ) → Plan file b → (i : ℕ) → getD a i 0 ≤ getD b i 0))
+      go (dead place) e =
+          let found : explored (file .fields) (start file) ≡ outcome none 0 1 = special-none (file .n) (within .values .1) (file .fields) (openValues (start file)) (start file) place e in
+          let none-needed : needed file ≡ 0 = ap (λ (o : Outcome). o .splits) found in
+          let found-so = enough-allowed allowed (omega arith) in
+          inl (found-so .0 ∙ ap (λ (o : Outcome). o .answer) found, found-so .1 ∙ none-needed)
+      go (alive box) e =
+          let found = special-plan (file .n) (within .values .1) (file .fields) depth (start file) box rooms fit kinds (omega arith) e in
+          let found-so = enough-allowed allowed (omega (arith, found .3, start-length (file .v) (file .n))) in
+          inr (found .0, found-so .0 ∙ found .1, found-so .2 ∙ found .2, λ b p i. found .4 b (plan-in-box b p) (p .1) i)

@@ -5,10 +5,12 @@ pub mod ClauseLaws
 pub mod Demands
 pub mod Depth
 pub mod InTurn
+pub mod LadderLaws
 pub mod LiveLaws
 pub mod OrderOfCutting
 pub mod RuleLaws
 pub mod SearchCases
 pub mod SearchLaws
 pub mod ShrinkLaws
+pub mod SpecialKind
 pub mod StarredCases

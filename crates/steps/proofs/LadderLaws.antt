@@ -1,0 +1,123 @@
+-- Laws of ladders, the sets that are empty or {1..b}, and of clauses in which the united set of at most one position is no ladder. Assumes nothing.
+use mathlib.Core.Path.{_≡_, sym, ap, _∙_, subst}
+use mathlib.Core.Logic.{_⊎_, inl, inr, ⊎-elim}
+use mathlib.Core.Bool.{false}
+use mathlib.Core.List.{List}
+use Prim.Native.Nat.{ℕ, zero, suc, _+_, _-_, _≤_, _<_}
+use native.Mathlib.Decide.{ℕ-discrete}
+use native.Mathlib.Omega.{arith}
+use lib.Dec.{T, eqb→eq}
+use lib.ListN.{length, getD, List·getD-map}
+use lib.Seq.{getD-set-same}
+use Rattle.sets.specs.Sets.{member, full, common, count, smallest}
+use Rattle.sets.specs.Promise.{oneIf}
+use Rattle.sets.proofs.Members.{test-same, test-cases, member-positive, member-common, member-full}
+use Rattle.sets.proofs.Smallest.{smallest-of-empty, smallest-least}
+use Rattle.rules.specs.declared.field.Atom.{Atom}
+use Rattle.rules.specs.Rules.{clause}
+use Rattle.rules.specs.Meaning.{valueAt, Meets}
+use Rattle.steps.specs.Boxes.{roomAt, withRoom, Rooms, smallestOf}
+use Rattle.steps.specs.Shrinking.{alive, united, cut, lookClause}
+use Rattle.steps.specs.Special.{isLadder, oddSets}
+use Rattle.steps.proofs.BoxLaws.{in-box-at, rooms-at}
+use Rattle.steps.proofs.BoxSizes.{smallest-in-box}
+use Rattle.steps.proofs.LiveLaws.{meets-united, shared-of-live}
+use Rattle.steps.proofs.ClauseLaws.{LiveIn, Looked, none-live, one-live, more-live, looked}
+use Rattle.steps.proofs.InTurn.{dead-not-alive}
+
+-- ---- ladders
+
+-- a ladder that has a value has every value below it
+pub ladder-down : (m x y : ℕ) → T (isLadder m) → member x m → 1 ≤ y → y ≤ x → member y m
+unfolding isLadder
+ladder-down m x y t u some less =
+    let same : m ≡ full (count m) = eqb→eq m (full (count m)) t in
+    let top = member-full (count m) x .0 (subst (λ (s : ℕ). member x s) same u) in
+    subst (λ (s : ℕ). member y s) (sym same) (member-full (count m) y .1 (top .0, some, omega arith))
+
+-- ---- how many united sets are no ladders
+
+-- the united set of the position is no ladder
+abbrev Odd : List Atom → ℕ → Type 0
+Odd atoms p = T (isLadder (united p atoms)) → ⊥
+
+-- a last position with such a set is counted
+odd-last : (v : ℕ) (atoms : List Atom) → Odd atoms (suc v) → oddSets (suc v) atoms ≡ 1 + oddSets v atoms
+unfolding oddSets oneIf
+odd-last v atoms odd = rw (test-same (isLadder (united (suc v) atoms)) false odd absurd)
+
+-- a position with such a set is counted
+odd-one : (v : ℕ) (atoms : List Atom) (p : ℕ) → 1 ≤ p → p ≤ v → Odd atoms p → 1 ≤ oddSets v atoms
+unfolding oddSets
+odd-one zero atoms p low high odd = absurd (omega arith)
+odd-one (suc v) atoms p low high odd = go (ℕ-discrete p (suc v)) (odd-one v atoms p low)
+  where
+    go : Dec (p ≡ suc v) → (p ≤ v → Odd atoms p → 1 ≤ oddSets v atoms) → 1 ≤ oddSets (suc v) atoms
+    go (yes e) rest = omega (arith, odd-last v atoms (subst (Odd atoms) e odd))
+    go (no apart) rest = omega (arith, rest (omega arith) odd)
+
+-- two positions with such sets are counted as two
+odd-two : (v : ℕ) (atoms : List Atom) (p q : ℕ) → 1 ≤ p → p < q → q ≤ v → Odd atoms p → Odd atoms q → 2 ≤ oddSets v atoms
+unfolding oddSets
+odd-two zero atoms p q low less high odd also = absurd (omega arith)
+odd-two (suc v) atoms p q low less high odd also = go (ℕ-discrete q (suc v)) (odd-two v atoms p q low less)
+  where
+    go : Dec (q ≡ suc v) → (q ≤ v → Odd atoms p → Odd atoms q → 2 ≤ oddSets v atoms) → 2 ≤ oddSets (suc v) atoms
+    go (yes e) rest = omega (arith, odd-last v atoms (subst (Odd atoms) e also), odd-one v atoms p low (omega arith) odd)
+    go (no apart) rest = omega (arith, rest (omega arith) odd also)
+
+-- where at most one is counted, one of two positions has a ladder
+pub ladder-of-two : (v : ℕ) (atoms : List Atom) (p q : ℕ) → 1 ≤ p → p < q → q ≤ v → oddSets v atoms ≤ 1
+    → T (isLadder (united p atoms)) ⊎ T (isLadder (united q atoms))
+ladder-of-two v atoms p q low less high few = go (test-cases (isLadder (united p atoms))) (test-cases (isLadder (united q atoms)))
+  where
+    Ladder : ℕ → Type 0
+    Ladder r = T (isLadder (united r atoms))
+
+    go : Ladder p ⊎ Odd atoms p → Ladder q ⊎ Odd atoms q → Ladder p ⊎ Ladder q
+    go (inl t) second = inl t
+    go (inr odd) (inl t) = inr t
+    go (inr odd) (inr also) = absurd (omega (arith, odd-two v atoms p q low less high odd also))
+
+-- ---- the smallest values
+
+-- the smallest values at a place: the smallest value of the room there
+pub smallest-at : (box : List ℕ) (i : ℕ) → getD (smallestOf box) i 0 ≡ smallest (getD box i 0)
+unfolding smallestOf
+smallest-at box i = subst (λ (d : ℕ). getD (smallestOf box) i d ≡ smallest (getD box i 0)) smallest-of-empty (List·getD-map smallest box i 0)
+
+module _ (atoms : List Atom) (box : List ℕ) (rooms : Rooms box) (p : ℕ) (live : LiveIn atoms box p) where
+  -- the smallest value of a live position whose united set is a ladder is in that set
+  ladder-met : T (isLadder (united p atoms)) → member (valueAt (smallestOf box) p) (united p atoms)
+  unfolding roomAt
+  ladder-met ladder =
+      let room = getD box (p - 1) 0 in
+      let mask = rooms-at box (p - 1) rooms (omega arith) .0 in
+      let shared = shared-of-live atoms p room mask (live .2) in
+      let least = smallest-least room (shared .0) mask (shared .1) in
+      subst (λ (x : ℕ). member x (united p atoms)) (sym (smallest-at box (p - 1)))
+      (ladder-down (united p atoms) (shared .0) (smallest room) ladder (shared .2) (member-positive (smallest room) room (least .0)) (least .1))
+
+  -- the smallest value of a position whose room is cut down to its united set already is in that set
+  cut-met : cut atoms p box ≡ box → member (valueAt (smallestOf box) p) (united p atoms)
+  unfolding cut withRoom roomAt
+  cut-met same =
+      let room = getD box (p - 1) 0 in
+      let x = valueAt (smallestOf box) p in
+      let there : p - 1 < length box = omega arith in
+      let shared : room ≡ common room (united p atoms) =
+      ap (λ (b : List ℕ). getD b (p - 1) 0) (sym same) ∙ getD-set-same box (p - 1) (common room (united p atoms)) 0 there in
+      let here = in-box-at (smallestOf box) box (p - 1) (smallest-in-box box rooms) there in
+      member-common x room (united p atoms) .0 (subst (λ (s : ℕ). member x s) shared here) .1
+
+-- where the look at a clause with at most one united set that is no ladder changes nothing, the smallest values meet it
+pub ladder-clause-least : (place : ℕ) (atoms : List Atom) (box : List ℕ) → Rooms box → oddSets (length box) atoms ≤ 1
+    → lookClause place atoms box ≡ alive box → Meets (smallestOf box) (clause atoms)
+ladder-clause-least place atoms box rooms few e = meets-united (smallestOf box) atoms .1 (go (looked place atoms box))
+  where
+    go : Looked place atoms box → (p : ℕ) × member (valueAt (smallestOf box) p) (united p atoms)
+    go (none-live dull f) = absurd (dead-not-alive (lookClause place atoms box) place box f e)
+    go (one-live p live only f) = let same : cut atoms p box ≡ box = cc in (p, cut-met atoms box rooms p live same)
+    go (more-live p q live also less f) =
+        ⊎-elim (λ t. (p, ladder-met atoms box rooms p live t)) (λ t. (q, ladder-met atoms box rooms q also t))
+        (ladder-of-two (length box) atoms p q (live .0) less (also .1) few)
