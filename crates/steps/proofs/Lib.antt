@@ -2,6 +2,7 @@ pub mod Allowance
 pub mod BoxLaws
 pub mod BoxSizes
 pub mod ClauseLaws
+pub mod Counts
 pub mod Demands
 pub mod Depth
 pub mod InTurn
