@@ -9,6 +9,7 @@ pub mod HeaderLaws
 pub mod ListLaws
 pub mod ReadExamples
 pub mod ReadingLaws
+pub mod RefusalLaws
 pub mod RoundTrip
 pub mod SoundLaws
 pub mod Unique

@@ -1,0 +1,9 @@
+pub mod EqualityLooks
+pub mod FieldLooks
+pub mod InputLaws
+pub mod LiveSetLaws
+pub mod LooksInTurn
+pub mod RoomLists
+pub mod SettleLaws
+pub mod ShrinkRounds
+pub mod UnitedLaws

@@ -1,0 +1,331 @@
+-- Laws of settled boxes: going over named positions, values, atoms and fields one by one, and what the clauses of an equality ask. Assumes nothing.
+use mathlib.Core.Path.{_≡_, refl, sym, ap, ap₂, _∙_, subst, subst₂}
+use mathlib.Core.Bool.{Bool, true, false, _&&_, _||_, and-assoc, and-true, or-false}
+use mathlib.Core.List.{List, [], _∷_, _++_, map, List·Memᴰ, List·Memᴰ·head, List·Memᴰ·tail}
+use Prim.Native.Nat.{ℕ, suc, _+_, _-_, _*_, _/_, _^_, _≤_, _<_}
+use native.Mathlib.Numerals.{add-one}
+use native.Mathlib.Omega.{arith}
+use lib.ListN.{length, getD, take, drop, length-take, length-drop}
+use lib.Seq.{drop-cons, getD-take}
+use Rattle.sets.specs.Sets.{member, inside, single, values, smallest, others}
+use Rattle.sets.proofs.Sameness.{member-extensional}
+use Rattle.sets.proofs.Smallest.{values-others, values-of-empty}
+use Rattle.rules.specs.declared.field.Atom.{Atom}
+use Rattle.rules.specs.declared.field.Head.{Head}
+use Rattle.rules.specs.declared.field.Tag.{Tag}
+use Rattle.rules.specs.declared.field.Tag.the-variants.{Header, Clause, Equality, Unknown}
+use Rattle.rules.specs.Lists.{Every}
+use Rattle.rules.specs.Rules.{Rule, Field}
+use Rattle.rules.specs.Reading.{atomOf, atomsOf, headOf, ruleOf, setAt, sizeOf, fieldFault, reading}
+use Rattle.rules.specs.Clauses.{atomIn, equalityClauses, clausesOf}
+use Rattle.rules.proofs.ListLaws.{some-of-listed, listed-of-some, some-over-map, every-map}
+use Rattle.rules.proofs.WalkLaws.{Rest, rest-on, rest-end, atoms-on}
+use Rattle.steps.specs.Boxes.{roomAt}
+use Rattle.steps.specs.Shrinking.{united, settledBy, settledClause, settledClauses, settledRule, settled}
+use Rattle.steps.proofs.BoxLaws.{every-at-place}
+use Rattle.steps.proofs.LiveLaws.{member-united}
+use Rattle.boxes.specs.United.{PositionsFit, AtomsFit, unitedSets}
+use Rattle.boxes.specs.Rooms.{everyInside, someInside, fileOf, fieldsIn, SoundInput}
+use Rattle.boxes.proofs.UnitedLaws.{united-sets-at}
+use Rattle.boxes.proofs.InputLaws.{sound-limits, sound-rest, field-there, rule-here, no-header-here, no-unknown-here, clause-here, equality-here}
+
+-- ---- tests in a row
+
+module _ (b later : Bool) {whole : Bool} where
+  -- where all are asked, one that fails decides
+  pub all-fail : whole ≡ (b && later) → b ≡ false → whole ≡ false
+  all-fail e h = e ∙ ap (λ (t : Bool). t && later) h
+
+  -- and one that holds leaves it to the others
+  pub all-on : whole ≡ (b && later) → b ≡ true → whole ≡ later
+  all-on e h = e ∙ ap (λ (t : Bool). t && later) h
+
+  -- where one is asked, one that holds decides
+  pub any-holds : whole ≡ (b || later) → b ≡ true → whole ≡ true
+  any-holds e h = e ∙ ap (λ (t : Bool). t || later) h
+
+  -- and one that fails leaves it to the others
+  pub any-on : whole ≡ (b || later) → b ≡ false → whole ≡ later
+  any-on e h = e ∙ ap (λ (t : Bool). t || later) h
+
+-- ---- named positions
+
+module _ (count i : ℕ) (ps : List ℕ) (there : i < count) (fits : count ≤ length ps) where
+  -- the first of the positions from i on, and the others
+  pub positions-on : take (count - i) (drop i ps) ≡ getD ps i 0 ∷ take (count - (i + 1)) (drop (i + 1) ps)
+  positions-on =
+      ap (λ (k : ℕ). take k (drop i ps)) one-more
+      ∙ ap (λ (rest : List ℕ). take (suc (count - (i + 1))) rest) (drop-cons ps i 0 (omega arith))
+      ∙ ap (λ (k : ℕ). getD ps i 0 ∷ take (count - (i + 1)) (drop k ps)) (sym (add-one i))
+    where
+      one-more : count - i ≡ suc (count - (i + 1))
+      one-more = omega arith
+
+  -- a named position is one from 1 to v
+  pub position-named : (v : ℕ) → PositionsFit v (take count ps) → (1 ≤ getD ps i 0) × (getD ps i 0 ≤ v)
+  position-named v h =
+      subst (λ (p : ℕ). (1 ≤ p) × (p ≤ v)) (getD-take count ps i 0 there)
+      (every-at-place (λ p. (1 ≤ p) × (p ≤ v)) (take count ps) i h (simp length-take (omega arith)))
+
+-- the room of a position from 1 to v, among the first v rooms
+pub room-there : (v p : ℕ) (rooms : List ℕ) → 1 ≤ p → p ≤ v → roomAt (take v rooms) p ≡ getD rooms (p - 1) 0
+unfolding roomAt
+room-there v p rooms h l = getD-take v rooms (p - 1) 0 (omega arith)
+
+module _ (v m count i : ℕ) (rooms ps : List ℕ) {b : Bool} (there : i < count) (fits : count ≤ length ps) (named : PositionsFit v (take count ps)) (here : b ≡ inside (getD rooms (getD ps i 0 - 1) 0) m) where
+  room-inside : inside (roomAt (take v rooms) (getD ps i 0)) m ≡ b
+  room-inside = let p = position-named count i ps there fits v named in ap (λ (room : ℕ). inside room m) (room-there v (getD ps i 0) rooms (p .0) (p .1)) ∙ sym here
+
+  -- every position from i on has its room inside the set: the first has, and the others
+  pub every-inside-on : everyInside (take v rooms) m (take (count - i) (drop i ps)) ≡ (b && everyInside (take v rooms) m (take (count - (i + 1)) (drop (i + 1) ps)))
+  unfolding everyInside
+  every-inside-on =
+      ap (everyInside (take v rooms) m) (positions-on count i ps there fits)
+      ∙ ap (λ (t : Bool). t && everyInside (take v rooms) m (take (count - (i + 1)) (drop (i + 1) ps))) room-inside
+
+  -- some position from i on has its room inside the set: the first has, or one of the others
+  pub some-inside-on : someInside (take v rooms) m (take (count - i) (drop i ps)) ≡ (b || someInside (take v rooms) m (take (count - (i + 1)) (drop (i + 1) ps)))
+  unfolding someInside
+  some-inside-on =
+      ap (someInside (take v rooms) m) (positions-on count i ps there fits)
+      ∙ ap (λ (t : Bool). t || someInside (take v rooms) m (take (count - (i + 1)) (drop (i + 1) ps))) room-inside
+
+-- ---- the clauses of an equality
+
+-- a position that is named in the list of atoms "it is in m" has m as the union of its sets
+united-same : (m q : ℕ) (ps : List ℕ) → List·Memᴰ q ps → united q (map (atomIn m) ps) ≡ m
+unfolding atomIn
+united-same m q ps t = member-extensional (united q (map (atomIn m) ps)) m (λ x. (forth x, back x))
+  where
+    Has : ℕ → Atom → Type 0
+    Has x a = (a .position ≡ q) × member x (a .set)
+
+    forth : (x : ℕ) → member x (united q (map (atomIn m) ps)) → member x m
+    forth x u = listed-of-some (λ p. Has x (atomIn m p)) ps (some-over-map (Has x) (atomIn m) ps .0 (member-united q x (map (atomIn m) ps) .0 u)) .2 .1
+
+    back : (x : ℕ) → member x m → member x (united q (map (atomIn m) ps))
+    back x u = member-united q x (map (atomIn m) ps) .1 (some-over-map (Has x) (atomIn m) ps .1 (some-of-listed (λ p. Has x (atomIn m p)) t (refl, u)))
+
+some-inside-by : (box : List ℕ) (m : ℕ) (qs ps : List ℕ) → ((q : ℕ) → List·Memᴰ q qs → List·Memᴰ q ps)
+    → someInside box m qs ≡ settledBy (map (atomIn m) qs) (map (atomIn m) ps) box
+unfolding someInside settledBy atomIn
+some-inside-by box m [] ps among = refl
+some-inside-by box m (q ∷ qs) ps among =
+    ap₂ (λ (n : ℕ) (later : Bool). inside (roomAt box q) n || later) (sym (united-same m q ps (among q (List·Memᴰ·head refl))))
+    (some-inside-by box m qs ps (λ p t. among p (List·Memᴰ·tail t)))
+
+-- some named position has its room inside the set: the clause "one of the named positions is in the set" is settled
+pub some-inside-clause : (box : List ℕ) (m : ℕ) (ps : List ℕ) → someInside box m ps ≡ settledClause box (map (atomIn m) ps)
+unfolding settledClause
+some-inside-clause box m ps = some-inside-by box m ps ps (λ q t. t)
+
+-- every named position has its room inside the set: for each the clause "it is in the set" is settled
+pub every-inside-clauses : (box : List ℕ) (m : ℕ) (ps : List ℕ) → everyInside box m ps ≡ settledClauses box (map (λ p. atomIn m p ∷ []) ps)
+unfolding everyInside settledClauses someInside
+every-inside-clauses box m [] = refl
+every-inside-clauses box m (p ∷ ps) = ap₂ (λ (b c : Bool). b && c) (sym (or-false (inside (roomAt box p) m)) ∙ some-inside-clause box m (p ∷ [])) (every-inside-clauses box m ps)
+
+settled-append : (box : List ℕ) (cs ds : List (List Atom)) → settledClauses box (cs ++ ds) ≡ (settledClauses box cs && settledClauses box ds)
+unfolding settledClauses
+settled-append box [] ds = refl
+settled-append box (c ∷ cs) ds = ap (λ (b : Bool). settledClause box c && b) (settled-append box cs ds) ∙ sym (and-assoc (settledClause box c) (settledClauses box cs) (settledClauses box ds))
+
+-- for every value x of the set the clause "one of the named positions is in {x}" is settled
+abbrev pub valuesSettled : List ℕ → List ℕ → ℕ → Bool
+valuesSettled box ps m = settledClauses box (map (λ x. map (atomIn (single x)) ps) (values m))
+
+-- an equality is settled: every named position has its room inside the set, and every value's clause is settled
+pub equality-parts : (box : List ℕ) (len : ℕ) (content : List ℕ) {m : ℕ} {rest : List ℕ} {b : Bool} → m ≡ setAt content 0 → rest ≡ drop 4 content → b ≡ everyInside box m (take (len - 4) rest)
+    → settledRule box (ruleOf Equality len content) ≡ (b && valuesSettled box (take (len - 4) rest) m)
+unfolding ruleOf settledRule clausesOf equalityClauses
+equality-parts box len content {m} {rest} e f g =
+    ap₂ (λ (k : ℕ) (l : List ℕ). settledClauses box (equalityClauses k (take (len - 4) l))) (sym e) (sym f)
+    ∙ settled-append box (map (λ p. atomIn m p ∷ []) ps) (map (λ x. map (atomIn (single x)) ps) (values m))
+    ∙ ap (λ (t : Bool). t && valuesSettled box ps m) (sym (g ∙ every-inside-clauses box m ps))
+  where
+    ps : List ℕ
+    ps = take (len - 4) rest
+
+-- the empty set has no value
+pub values-settled-none : (box ps : List ℕ) → valuesSettled box ps 0 ≡ true
+unfolding settledClauses
+values-settled-none box ps = ap (λ (xs : List ℕ). settledClauses box (map (λ x. map (atomIn (single x)) ps) xs)) values-of-empty
+
+-- every value's clause is settled: that of the smallest, and those of the other values
+pub values-settled-on : (box ps : List ℕ) (m : ℕ) {one : ℕ} {b : Bool} → m < 2 ^ 32 → (m ≡ 0 → ⊥) → one ≡ single (smallest m) → b ≡ someInside box one ps
+    → valuesSettled box ps m ≡ (b && valuesSettled box ps (others m))
+unfolding settledClauses
+values-settled-on box ps m h ne e f =
+    ap (λ (xs : List ℕ). settledClauses box (map (λ x. map (atomIn (single x)) ps) xs)) (values-others m h ne)
+    ∙ ap (λ (t : Bool). t && valuesSettled box ps (others m)) (sym (f ∙ ap (λ (k : ℕ). someInside box k ps) e ∙ some-inside-clause box (single (smallest m)) ps))
+
+-- ---- the atoms of a clause
+
+-- the atoms from i on, of a clause of so many bytes: they are whole, each on a position from 1 to v, and whether one of them shows the clause settled decides
+pub record AtomsLeft (v len i : ℕ) (rooms content : List ℕ) : Type 0 where
+  pub whole : i + (len - i) / 5 * 5 ≡ len
+  pub fit : Every (λ a. (1 ≤ a .position) × (a .position ≤ v)) (atomsOf ((len - i) / 5) (drop i content))
+  pub decide : settledClause (take v rooms) (atomsOf (len / 5) content) ≡ settledBy (atomsOf ((len - i) / 5) (drop i content)) (atomsOf (len / 5) content) (take v rooms)
+
+-- at the start all atoms are left
+pub atoms-left-start : (v len : ℕ) (rooms content : List ℕ) → len / 5 * 5 ≡ len → Every (λ a. (1 ≤ a .position) × (a .position ≤ v)) (atomsOf (len / 5) content)
+    → AtomsLeft v len 0 rooms content
+unfolding settledClause
+atoms-left-start v len rooms content e fit = record {
+  whole = omega arith;
+  fit = subst (λ (k : ℕ). Every (λ a. (1 ≤ a .position) × (a .position ≤ v)) (atomsOf k content)) all fit;
+  decide = ap (λ (k : ℕ). settledBy (atomsOf k content) (atomsOf (len / 5) content) (take v rooms)) all;
+}
+  where
+    all : len / 5 ≡ (len - 0) / 5
+    all = omega arith
+
+-- where none is left the clause is not settled
+pub atoms-left-none : {v len i : ℕ} {rooms content : List ℕ} → AtomsLeft v len i rooms content → len ≤ i → settledClause (take v rooms) (atomsOf (len / 5) content) ≡ false
+unfolding settledBy atomsOf
+atoms-left-none {v} {len} {i} {rooms} {content} left past = left .decide ∙ ap (λ (k : ℕ). settledBy (atomsOf k (drop i content)) (atomsOf (len / 5) content) (take v rooms)) none
+  where
+    none : (len - i) / 5 ≡ 0
+    none = omega arith
+
+module _ {v len i : ℕ} {rooms content : List ℕ} (left : AtomsLeft v len i rooms content) (there : i < len) {a : Atom} (here : a ≡ atomOf (drop i content)) where
+  more : i + 5 ≤ len
+  more = omega (arith, left .whole)
+
+  next : atomsOf ((len - i) / 5) (drop i content) ≡ a ∷ atomsOf ((len - (i + 5)) / 5) (drop (i + 5) content)
+  next =
+      atoms-on ((len - i) / 5) i content (omega (arith, left .whole))
+      ∙ ap₂ (λ (b : Atom) (k : ℕ). b ∷ atomsOf k (drop (i + 5) content)) (sym here) fewer
+    where
+      fewer : (len - i) / 5 - 1 ≡ (len - (i + 5)) / 5
+      fewer = omega (arith, left .whole)
+
+  fit-next : Every (λ b. (1 ≤ b .position) × (b .position ≤ v)) (a ∷ atomsOf ((len - (i + 5)) / 5) (drop (i + 5) content))
+  fit-next = subst (λ (bs : List Atom). Every (λ b. (1 ≤ b .position) × (b .position ≤ v)) bs) next (left .fit)
+
+  -- the next atom is on a position from 1 to v
+  pub atom-fits : (1 ≤ a .position) × (a .position ≤ v)
+  atom-fits = fit-next .0
+
+  module _ {sets : List ℕ} {b : Bool} (few : v ≤ 64) (same : sets ≡ unitedSets (atomsOf (len / 5) content)) (test : b ≡ inside (getD rooms (a .position - 1) 0) (getD sets (a .position - 1) 0)) where
+    united-here : getD sets (a .position - 1) 0 ≡ united (a .position) (atomsOf (len / 5) content)
+    united-here =
+        ap (λ (l : List ℕ). getD l (a .position - 1) 0) same
+        ∙ united-sets-at (atomsOf (len / 5) content) (a .position - 1) (omega (arith, atom-fits))
+        ∙ ap (λ (p : ℕ). united p (atomsOf (len / 5) content)) back
+      where
+        back : a .position - 1 + 1 ≡ a .position
+        back = omega (arith, atom-fits)
+
+    test-here : inside (roomAt (take v rooms) (a .position)) (united (a .position) (atomsOf (len / 5) content)) ≡ b
+    test-here = ap₂ inside (room-there v (a .position) rooms (atom-fits .0) (atom-fits .1)) (sym united-here) ∙ sym test
+
+    scan : settledClause (take v rooms) (atomsOf (len / 5) content) ≡ (b || settledBy (atomsOf ((len - (i + 5)) / 5) (drop (i + 5) content)) (atomsOf (len / 5) content) (take v rooms))
+    unfolding settledBy
+    scan =
+        left .decide ∙ ap (λ (bs : List Atom). settledBy bs (atomsOf (len / 5) content) (take v rooms)) next
+        ∙ ap (λ (t : Bool). t || settledBy (atomsOf ((len - (i + 5)) / 5) (drop (i + 5) content)) (atomsOf (len / 5) content) (take v rooms)) test-here
+
+    -- it shows the clause settled
+    pub atom-settles : b ≡ true → settledClause (take v rooms) (atomsOf (len / 5) content) ≡ true
+    atom-settles e = any-holds b _ scan e
+
+    -- else the others are left
+    pub atoms-left-on : b ≡ false → AtomsLeft v len (i + 5) rooms content
+    atoms-left-on e = record { whole = omega (arith, left .whole, more); fit = fit-next .1; decide = any-on b _ scan e }
+
+-- ---- the fields of a sound file
+
+-- before the field at a place all fields are settled: whether those from there on are decides
+abbrev pub FieldsLeft : List ℕ → ℕ → List ℕ → ℕ → Type 0
+FieldsLeft s v rooms at = (fs : List Field) × Rest v (fileOf (reading s) .n) s at fs × (settled (fieldsIn s) (take v rooms) ≡ settled fs (take v rooms))
+
+-- at the start all fields are left
+pub fields-left-start : (s : List ℕ) (v : ℕ) (rooms : List ℕ) → SoundInput s v → FieldsLeft s v rooms 5
+fields-left-start s v rooms sound = (fieldsIn s, sound-rest s v sound, refl)
+
+-- where none is left the box is settled
+pub fields-left-none : (s : List ℕ) (v : ℕ) (rooms : List ℕ) (at : ℕ) → FieldsLeft s v rooms at → length s ≤ at → settled (fieldsIn s) (take v rooms) ≡ true
+unfolding settled
+fields-left-none s v rooms at left past = left .2 ∙ ap (λ (fs : List Field). settled fs (take v rooms)) (rest-end v (fileOf (reading s) .n) at s (left .0) past (left .1))
+
+-- the field at a place, with its head and its content
+pub record FieldHere (s : List ℕ) (v : ℕ) (rooms : List ℕ) (at : ℕ) (head : Head) (content : List ℕ) : Type 0 where
+  pub there : at + 3 + head .length ≤ length s
+  pub long : head .length ≤ length content
+  pub few : v ≤ 64
+  pub later : List Field
+  pub behind : Rest v (fileOf (reading s) .n) s (at + 3 + head .length) later
+  pub decide : settled (fieldsIn s) (take v rooms) ≡ (settledRule (take v rooms) (ruleOf (head .kind) (head .length) content) && settled later (take v rooms))
+  pub known : (head .kind ≡ Equality → ⊥) → head .kind ≡ Clause
+  pub equality-fits : head .kind ≡ Equality → (4 ≤ head .length) × PositionsFit v (take (head .length - 4) (drop 4 content))
+  pub clause-fits : head .kind ≡ Clause → (head .length / 5 * 5 ≡ head .length) × Every (λ a. (1 ≤ a .position) × (a .position ≤ v)) (atomsOf (head .length / 5) content)
+
+by-kind : (k : Tag) → (k ≡ Header → ⊥) → (k ≡ Unknown → ⊥) → (k ≡ Equality → ⊥) → k ≡ Clause
+by-kind Header h u e = absurd (h refl)
+by-kind Clause h u e = refl
+by-kind Equality h u e = absurd (e refl)
+by-kind Unknown h u e = absurd (u refl)
+
+module _ (s : List ℕ) (v : ℕ) (rooms : List ℕ) (at : ℕ) (sound : SoundInput s v) (left : FieldsLeft s v rooms at) (there : at < length s) where
+  field-read : FieldHere s v rooms at (headOf (drop at s)) (drop (at + 3) s)
+  unfolding settled sizeOf
+  field-read =
+      let n = fileOf (reading s) .n in
+      let step = rest-on v n at s (left .0) there (left .1) in
+      let none : fieldFault v n (drop at s) ≡ 0 = step .2 in
+      let within = field-there v n at s there none in
+      record {
+        there = within;
+        long = omega (arith, length-drop (at + 3) s);
+        few = sound-limits s v sound .1;
+        later = step .0;
+        behind = subst (λ (k : ℕ). Rest v n s k (step .0)) (together (headOf (drop at s) .length)) (step .3);
+        decide =
+            left .2 ∙ ap (λ (fs : List Field). settled fs (take v rooms)) (step .1)
+            ∙ ap (λ (r : Rule). settledRule (take v rooms) r && settled (step .0) (take v rooms)) (rule-here v n at s there none);
+        known = by-kind (headOf (drop at s) .kind) (no-header-here v n at s there none) (no-unknown-here v n at s there none);
+        equality-fits = λ e. let fit = equality-here v n at s there none e in (fit .0, fit .2);
+        clause-fits = clause-here v n at s there none;
+      }
+    where
+      together : (len : ℕ) → at + (3 + len) ≡ at + 3 + len
+      together len = omega arith
+
+  -- its head lies within the bytes
+  pub head-there : at + 3 ≤ length s
+  head-there = omega (arith, field-read .there)
+
+  -- what is known of it, where its head was read and its content is what stands behind
+  pub field-here : {head : Head} {content : List ℕ} → head ≡ headOf (drop at s) → content ≡ drop (at + 3) s → FieldHere s v rooms at head content
+  field-here e f = subst₂ (λ (h : Head) (l : List ℕ). FieldHere s v rooms at h l) (sym e) (sym f) field-read
+
+module _ {s : List ℕ} {v : ℕ} {rooms : List ℕ} {at : ℕ} {head : Head} {content : List ℕ} (field : FieldHere s v rooms at head content) where
+  -- a clause is as the list of united sets wants it
+  pub clause-unites : head .kind ≡ Clause → (head .length / 5 * 5 ≤ length content) × AtomsFit (atomsOf (head .length / 5) content)
+  clause-unites e =
+      let fit = field .clause-fits e in (
+        omega (arith, fit .0, field .long),
+        every-map (λ a. (1 ≤ a .position) × (a .position ≤ v)) (λ a. (1 ≤ a .position) × (a .position ≤ 64)) (atomsOf (head .length / 5) content) (λ a h. (h .0, omega (arith, h .1, field .few))) (fit .1),
+      )
+
+  -- the rule of an equality
+  pub equality-rule : {b : Bool} → head .kind ≡ Equality → b ≡ settledRule (take v rooms) (ruleOf Equality (head .length) content)
+      → settledRule (take v rooms) (ruleOf (head .kind) (head .length) content) ≡ b
+  equality-rule e f = ap (λ (k : Tag). settledRule (take v rooms) (ruleOf k (head .length) content)) e ∙ sym f
+
+  -- the rule of a clause
+  pub clause-rule : {b : Bool} → head .kind ≡ Clause → settledClause (take v rooms) (atomsOf (head .length / 5) content) ≡ b
+      → settledRule (take v rooms) (ruleOf (head .kind) (head .length) content) ≡ b
+  unfolding ruleOf settledRule clausesOf settledClauses
+  clause-rule e f =
+      ap (λ (k : Tag). settledRule (take v rooms) (ruleOf k (head .length) content)) e
+      ∙ and-true (settledClause (take v rooms) (atomsOf (head .length / 5) content)) ∙ f
+
+  -- where its rule is not settled the box is not
+  pub field-fails : settledRule (take v rooms) (ruleOf (head .kind) (head .length) content) ≡ false → settled (fieldsIn s) (take v rooms) ≡ false
+  field-fails e = all-fail (settledRule (take v rooms) (ruleOf (head .kind) (head .length) content)) _ (field .decide) e
+
+  -- where it is, the fields behind it are left
+  pub fields-left-on : settledRule (take v rooms) (ruleOf (head .kind) (head .length) content) ≡ true → FieldsLeft s v rooms (at + 3 + head .length)
+  fields-left-on e = (field .later, field .behind, all-on (settledRule (take v rooms) (ruleOf (head .kind) (head .length) content)) _ (field .decide) e)

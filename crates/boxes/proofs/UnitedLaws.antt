@@ -1,0 +1,195 @@
+-- Laws of the list of united sets: how it grows by an atom, and that a look by it is a look at the clause. Assumes nothing.
+use mathlib.Core.Path.{_≡_, refl, sym, ap, ap₂, _∙_, subst}
+use mathlib.Core.Bool.{Bool, true, false, not}
+use mathlib.Core.List.{List, [], _∷_, _++_, map}
+use Prim.Native.Nat.{ℕ, zero, suc, _+_, _-_, _*_, _≤_, _<_}
+use native.Mathlib.Nat.{add-zero}
+use native.Mathlib.Decide.{decLt, ℕ-discrete}
+use native.Mathlib.Omega.{arith}
+use lib.ListN.{length, getD, drop, set, replicate, length-set}
+use lib.Seq.{getD-set-same, getD-set-other, ext-getD, set-out, drop-drop}
+use borrow.Author.Tests.{eq-eqb, ne-eqb}
+use Rattle.sets.specs.Sets.{union, common, isEmpty}
+use Rattle.rules.specs.declared.field.Atom.{Atom}
+use Rattle.rules.specs.Lists.{Every}
+use Rattle.rules.specs.Reading.{atomOf, atomsOf}
+use Rattle.steps.specs.Boxes.{roomAt, withRoom}
+use Rattle.steps.specs.Shrinking.{uniteIf, united, isLive, liveFrom, cut, lookBy, lookClause}
+use Rattle.boxes.specs.United.{unitedFrom, unitedSets, AtomsFit, indexIf, liveSets, liveOf, lookLive, lookSets, Looked}
+
+-- ---- the list by its elements
+
+united-from-length : (p k : ℕ) (atoms : List Atom) → length (unitedFrom p k atoms) ≡ k
+unfolding unitedFrom
+united-from-length p zero atoms = refl
+united-from-length p (suc k) atoms = ap suc (united-from-length (suc p) k atoms)
+
+united-from-at : (p k : ℕ) (atoms : List Atom) (i : ℕ) → i < k → getD (unitedFrom p k atoms) i 0 ≡ united (p + i) atoms
+unfolding unitedFrom
+united-from-at p zero atoms i h = absurd (omega arith)
+united-from-at p (suc k) atoms zero h = ap (λ (q : ℕ). united q atoms) (sym (add-zero p))
+united-from-at p (suc k) atoms (suc i) h =
+    let e : suc p + i ≡ p + suc i = omega arith in
+    united-from-at (suc p) k atoms i (omega arith) ∙ ap (λ (q : ℕ). united q atoms) e
+
+united-from-none : (p k : ℕ) → unitedFrom p k [] ≡ replicate k 0
+unfolding unitedFrom united
+united-from-none p zero = refl
+united-from-none p (suc k) = ap (λ (sets : List ℕ). 0 ∷ sets) (united-from-none (suc p) k)
+
+-- there are 64
+pub united-sets-length : (atoms : List Atom) → length (unitedSets atoms) ≡ 64
+unfolding unitedSets
+united-sets-length atoms = united-from-length 1 64 atoms
+
+-- the set at an index is the union of the sets of the position one above it
+pub united-sets-at : (atoms : List Atom) (i : ℕ) → i < 64 → getD (unitedSets atoms) i 0 ≡ united (i + 1) atoms
+unfolding unitedSets
+united-sets-at atoms i h =
+    let e : 1 + i ≡ i + 1 = omega arith in
+    united-from-at 1 64 atoms i h ∙ ap (λ (q : ℕ). united q atoms) e
+
+-- with no atom each is empty
+pub united-sets-none : unitedSets [] ≡ replicate 64 0
+unfolding unitedSets
+united-sets-none = united-from-none 1 64
+
+-- ---- an atom more
+
+module _ (a : Atom) (more : List Atom) where
+  -- an atom adds its set to the union of its position
+  united-here : (p : ℕ) → a .position ≡ p → united p (a ∷ more) ≡ union (a .set) (united p more)
+  unfolding united uniteIf
+  united-here p e = rw (eq-eqb (a .position) p e)
+
+  -- an atom adds nothing to the union of another position
+  united-elsewhere : (p : ℕ) → (a .position ≡ p → ⊥) → united p (a ∷ more) ≡ united p more
+  unfolding united uniteIf
+  united-elsewhere p ne = rw (ne-eqb (a .position) p ne)
+
+-- an atom more in front changes the set of its position alone
+pub united-sets-more : (a : Atom) (more : List Atom) → 1 ≤ a .position → a .position ≤ 64
+    → unitedSets (a ∷ more) ≡ set (unitedSets more) (a .position - 1) (union (a .set) (getD (unitedSets more) (a .position - 1) 0))
+united-sets-more a more h l =
+    ext-getD 0 (unitedSets (a ∷ more)) (set old at new)
+    (united-sets-length (a ∷ more) ∙ sym (length-set old at new ∙ united-sets-length more))
+    (λ i below. let b : i < 64 = omega (arith, united-sets-length (a ∷ more)) in united-sets-at (a ∷ more) i b ∙ cases i b (ℕ-discrete i at))
+  where
+    old : List ℕ
+    old = unitedSets more
+
+    at : ℕ
+    at = a .position - 1
+
+    new : ℕ
+    new = union (a .set) (getD old at 0)
+
+    cases : (i : ℕ) → i < 64 → Dec (i ≡ at) → united (i + 1) (a ∷ more) ≡ getD (set old at new) i 0
+    cases i b (yes e) =
+        united-here a more (i + 1) (omega arith)
+        ∙ ap (union (a .set)) (sym (united-sets-at more i b) ∙ ap (λ (j : ℕ). getD old j 0) e)
+        ∙ sym (ap (λ (j : ℕ). getD (set old at new) j 0) e ∙ getD-set-same old at new 0 (omega (arith, united-sets-length more)))
+    cases i b (no ne) =
+        united-elsewhere a more (i + 1) (λ e. ne (omega arith)) ∙ sym (getD-set-other old at i new 0 ne ∙ united-sets-at more i b)
+
+-- ---- the atoms of a content, each taken in front of those behind it
+
+-- what holds of every atom holds of the one at a place
+pub atom-here : (P : Atom → Type 0) (count k : ℕ) (content : List ℕ) → k < count → Every P (atomsOf count content) → P (atomOf (drop (k * 5) content))
+unfolding atomsOf
+atom-here P zero k content h every = absurd (omega arith)
+atom-here P (suc count) zero content h every = every .0
+atom-here P (suc count) (suc k) content h every =
+    let e : 5 + k * 5 ≡ suc k * 5 = omega arith in
+    subst (λ (bytes : List ℕ). P (atomOf bytes)) (drop-drop (k * 5) 5 content ∙ ap (λ (at : ℕ). drop at content) e)
+    (atom-here P count k (drop 5 content) (omega arith) (every .1))
+
+-- where the atoms fit, the one at a place names a position from 1 to 64
+pub atom-fits : (count k : ℕ) (content : List ℕ) (a : Atom) → k < count → a ≡ atomOf (drop (k * 5) content) → AtomsFit (atomsOf count content)
+    → (1 ≤ a .position) × (a .position ≤ 64)
+atom-fits count k content a h e fit =
+    subst (λ (b : Atom). (1 ≤ b .position) × (b .position ≤ 64)) (sym e) (atom-here (λ b. (1 ≤ b .position) × (b .position ≤ 64)) count k content h fit)
+
+module _ (count left : ℕ) (content : List ℕ) where
+  -- the atom before a place stands in front of those from there on
+  atoms-before : 0 < left → left ≤ count
+      → atomsOf (count - (left - 1)) (drop ((left - 1) * 5) content) ≡ atomOf (drop ((left - 1) * 5) content) ∷ atomsOf (count - left) (drop (left * 5) content)
+  unfolding atomsOf
+  atoms-before h l =
+      ap (λ (k : ℕ). atomsOf k (drop ((left - 1) * 5) content)) one-more
+      ∙ ap (λ (bytes : List ℕ). atomOf (drop ((left - 1) * 5) content) ∷ atomsOf (count - left) bytes)
+      (drop-drop 5 ((left - 1) * 5) content ∙ ap (λ (at : ℕ). drop at content) next)
+    where
+      one-more : count - (left - 1) ≡ suc (count - left)
+      one-more = omega arith
+
+      next : (left - 1) * 5 + 5 ≡ left * 5
+      next = omega arith
+
+  -- the list of the atoms from a place on, with the atom before it united, is the list of one atom more
+  pub united-before : (old new : List ℕ) (a : Atom) → 0 < left → left ≤ count → AtomsFit (atomsOf count content)
+      → old ≡ unitedSets (atomsOf (count - left) (drop (left * 5) content)) → a ≡ atomOf (drop ((left - 1) * 5) content)
+      → new ≡ set old (a .position - 1) (union (a .set) (getD old (a .position - 1) 0))
+      → new ≡ unitedSets (atomsOf (count - (left - 1)) (drop ((left - 1) * 5) content))
+  united-before old new a h l fit e at en =
+      let fits = atom-fits count (left - 1) content a (omega arith) at fit in
+      en ∙ ap (λ (sets : List ℕ). set sets (a .position - 1) (union (a .set) (getD sets (a .position - 1) 0))) e
+      ∙ sym (united-sets-more a behind (fits .0) (fits .1)) ∙ ap unitedSets (ap (λ (b : Atom). b ∷ behind) at ∙ sym (atoms-before h l))
+    where
+      behind : List Atom
+      behind = atomsOf (count - left) (drop (left * 5) content)
+
+  -- from the first place on there are all
+  pub united-all : left ≤ 0 → unitedSets (atomsOf (count - left) (drop (left * 5) content)) ≡ unitedSets (atomsOf count content)
+  united-all h =
+      let all : count - left ≡ count = omega arith in
+      let start : left * 5 ≡ 0 = omega arith in
+      ap₂ (λ (k at : ℕ). unitedSets (atomsOf k (drop at content))) all start
+
+-- behind the last atom there is none
+pub united-end : (count : ℕ) (bytes : List ℕ) → replicate 64 0 ≡ unitedSets (atomsOf (count - count) bytes)
+unfolding atomsOf
+united-end count bytes = let none : 0 ≡ count - count = omega arith in sym united-sets-none ∙ ap (λ (k : ℕ). unitedSets (atomsOf k bytes)) none
+
+-- ---- a look
+
+module _ (atoms : List Atom) where
+  -- a room meets its set in the list where its position is live
+  live-test : (i room : ℕ) → i < 64 → isLive atoms (i + 1) room ≡ not (isEmpty (common room (getD (unitedSets atoms) i 0)))
+  unfolding isLive
+  live-test i room h = ap (λ (m : ℕ). not (isEmpty (common room m))) (sym (united-sets-at atoms i h))
+
+  -- the live positions are one above the live indices
+  live-positions : (i : ℕ) (box : List ℕ) → i + length box ≤ 64 → liveFrom atoms (i + 1) box ≡ map (λ (j : ℕ). j + 1) (liveSets (unitedSets atoms) i box)
+  unfolding liveFrom liveSets indexIf
+  live-positions i [] h = refl
+  live-positions i (room ∷ box) h = go (isLive atoms (i + 1) room) refl (live-positions (i + 1) box (omega arith))
+    where
+      go : (b : Bool) → isLive atoms (i + 1) room ≡ b
+          → liveFrom atoms (i + 1 + 1) box ≡ map (λ (j : ℕ). j + 1) (liveSets (unitedSets atoms) (i + 1) box)
+          → liveFrom atoms (i + 1) (room ∷ box) ≡ map (λ (j : ℕ). j + 1) (liveSets (unitedSets atoms) i (room ∷ box))
+      go true e more = rw (← live-test i room (omega arith), e) (ap (λ (ps : List ℕ). (i + 1) ∷ ps) more)
+      go false e more = rw (← live-test i room (omega arith), e) more
+
+  -- cutting a position's room is cutting the room at its index by the list
+  cut-by-sets : (i : ℕ) (box : List ℕ) → length box ≤ 64 → cut atoms (i + 1) box ≡ set box i (common (getD box i 0) (getD (unitedSets atoms) i 0))
+  unfolding cut roomAt withRoom
+  cut-by-sets i box h = ap (λ (k : ℕ). set box k (common (getD box k 0) (united (i + 1) atoms))) back ∙ cases (decLt i 64)
+    where
+      back : i + 1 - 1 ≡ i
+      back = omega arith
+
+      cases : Dec (i < 64) → set box i (common (getD box i 0) (united (i + 1) atoms)) ≡ set box i (common (getD box i 0) (getD (unitedSets atoms) i 0))
+      cases (yes b) = ap (λ (m : ℕ). set box i (common (getD box i 0) m)) (sym (united-sets-at atoms i b))
+      cases (no n) = let far : length box ≤ i = omega arith in set-out box i _ far ∙ sym (set-out box i _ far)
+
+-- a look by the list of united sets is a look at the clause
+pub look-sets-clause : (place : ℕ) (atoms : List Atom) (box after rest : List ℕ) (r : Bool) → length box ≤ 64
+    → Looked (lookSets (unitedSets atoms) box) r after rest → Looked (lookClause place atoms box) r after rest
+unfolding lookSets lookClause liveOf lookLive lookBy
+look-sets-clause place atoms box after rest r h l = rw (live-positions atoms 0 box (omega arith)) (by (liveSets (unitedSets atoms) 0 box) l)
+  where
+    by : (is : List ℕ) → Looked (lookLive (liveOf is) (unitedSets atoms) box) r after rest → Looked (lookBy (map (λ (j : ℕ). j + 1) is) place atoms box) r after rest
+    by [] l = l
+    by (i ∷ []) l = (l .0, l .1 ∙ ap (λ (b : List ℕ). b ++ rest) (sym (cut-by-sets atoms i box h)))
+    by (i ∷ j ∷ is) l = l

@@ -1,0 +1,48 @@
+-- What the functions of `src/shrink.rt` and `src/settle.rt` promise: sound inputs, rounds, and rooms in an array of 64. Assumes nothing.
+use Prim.Native.Nat.{ℕ}
+use mathlib.Core.Path.{_≡_}
+use mathlib.Core.Bool.{Bool, true, false, _&&_, _||_}
+use mathlib.Core.List.{List, [], _∷_, _++_}
+use lib.ListN.{replicate}
+use Rattle.sets.specs.Sets.{inside}
+use Rattle.rules.specs.Rules.{Field, File}
+use Rattle.rules.specs.Reading.{Reading, sound, refused, reading}
+use Rattle.steps.specs.Boxes.{roomAt}
+use Rattle.steps.specs.Shrinking.{Look, dead, alive}
+use Rattle.boxes.specs.declared.shrink.Verdict.{Verdict}
+use Rattle.boxes.specs.declared.shrink.Verdict.the-variants.{Alive, Dead}
+use Rattle.boxes.specs.declared.shrink.Shrunk.{Shrunk}
+
+-- the file that was read, and a file with nothing in it where the bytes were refused
+unfoldable pub fileOf : Reading → File
+fileOf (sound file) = file
+fileOf (refused number place) = record { v = 0; n = 0; fields = [] }
+
+-- the fields of the file that the bytes are
+unfoldable pub fieldsIn : List ℕ → List Field
+fieldsIn s = fileOf (reading s) .fields
+
+-- the bytes are a sound file of v positions
+pub record SoundInput (s : List ℕ) (v : ℕ) : Type 0 where
+  pub read : reading s ≡ sound (fileOf (reading s))
+  pub positions : fileOf (reading s) .v ≡ v
+
+-- what a round leaves: the place of a dead field; or the rooms of the box in front of the others
+abbrev pub Rounded : Look → Verdict → List ℕ → List ℕ → Type 0
+Rounded (dead place) r after rest = r ≡ Dead place
+Rounded (alive box) r after rest = (r ≡ Alive) × (after ≡ box ++ rest)
+
+-- the verdict and the rooms that shrinking answers: where it is dead no room has a value
+unfoldable pub shrunkRooms : Look → List ℕ → Shrunk
+shrunkRooms (dead place) rest = record { verdict = Dead place; rooms = replicate 64 0 }
+shrunkRooms (alive box) rest = record { verdict = Alive; rooms = box ++ rest }
+
+-- every named position has its room inside the set
+unfoldable pub everyInside : List ℕ → ℕ → List ℕ → Bool
+everyInside box m [] = true
+everyInside box m (p ∷ ps) = inside (roomAt box p) m && everyInside box m ps
+
+-- some named position has
+unfoldable pub someInside : List ℕ → ℕ → List ℕ → Bool
+someInside box m [] = false
+someInside box m (p ∷ ps) = inside (roomAt box p) m || someInside box m ps

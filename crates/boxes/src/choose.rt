@@ -1,0 +1,67 @@
+// Where to split, the two halves of a split, and the values of a plan. The contracts cite the boxes
+// and the search of `steps`.
+ghost use mathlib.Core.Path.{_≡_};
+ghost use mathlib.Core.List.{_++_};
+ghost use Prim.Native.Nat.{_-_, _≤_, _<_};
+ghost use lib.ListN.{take, replicate};
+ghost use Rattle.steps.specs.Boxes.{firstHalf, otherHalf, smallestOf};
+ghost use Rattle.steps.specs.Search.{chosen};
+use sets::Room;
+
+// The index of the first of the v rooms with two or more values; v where there is none.
+pub fn choose(rooms: &[u32; 64], v: usize) -> usize
+    requires { ⌜ v ≤ 64 ⌝ }
+    ensures { λ r. ⌜ r ≡ chosen (take v (now (rooms .entry))) ⌝ }
+{
+    // As a slice the rooms are known to be 64.
+    let all: &[u32] = rooms;
+    let mut i = 0;
+    while i < v {
+        let room = Room { mask: all[i] };
+        if room.count() >= 2 {
+            return i;
+        }
+        i += 1;
+    }
+    i
+}
+
+// The rooms with the smallest value alone in the room at an index.
+pub fn first_half(rooms: [u32; 64], i: usize) -> [u32; 64]
+    requires { ⌜ i < 64 ⌝ }
+    ensures { λ r. ⌜ r ≡ firstHalf i rooms ⌝ }
+{
+    let mut half = rooms;
+    let room = Room { mask: rooms[i] };
+    half[i] = Room::single(room.smallest()).mask;
+    half
+}
+
+// The rooms with the other values in the room at an index.
+pub fn other_half(rooms: [u32; 64], i: usize) -> [u32; 64]
+    requires { ⌜ i < 64 ⌝ }
+    ensures { λ r. ⌜ r ≡ otherHalf i rooms ⌝ }
+{
+    let mut half = rooms;
+    let room = Room { mask: rooms[i] };
+    let one = Room::single(room.smallest());
+    half[i] = room.common(one.complement(Room::VALUES)).mask;
+    half
+}
+
+// The smallest value of each of the v rooms, and 0 behind them.
+pub fn smallest_values(rooms: &[u32; 64], v: usize) -> [u32; 64]
+    requires { ⌜ v ≤ 64 ⌝ }
+    ensures { λ r. ⌜ r ≡ smallestOf (take v (now (rooms .entry))) ++ replicate (64 - v) 0 ⌝ }
+{
+    // As a slice the rooms are known to be 64.
+    let all: &[u32] = rooms;
+    let mut values = [0u32; 64];
+    let mut i = 0;
+    while i < v {
+        let room = Room { mask: all[i] };
+        values[i] = room.smallest();
+        i += 1;
+    }
+    values
+}

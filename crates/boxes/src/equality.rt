@@ -1,0 +1,105 @@
+// Looking at a set equality, as the clauses that it means: for each named position "it is in M",
+// then for each value of M, rising, "one of the named positions is in it". The contracts cite
+// specs/United.antt and the search of `steps`.
+ghost use mathlib.Core.Path.{_≡_};
+ghost use mathlib.Core.List.{_∷_, [], map};
+ghost use Prim.Native.Nat.{ℕ, _+_, _-_, _*_, _≤_, _<_};
+ghost use lib.ListN.{length, getD, set, take, drop};
+ghost use Rattle.sets.specs.Sets.{single, values};
+ghost use Rattle.rules.specs.Clauses.{atomIn};
+ghost use Rattle.rules.specs.Reading.{ruleOf};
+ghost use Rattle.rules.specs.declared.field.Tag.the-variants.{Equality};
+ghost use Rattle.steps.specs.Shrinking.{lookClauses, lookRule};
+ghost use Rattle.boxes.specs.United.{unitedSets, PositionsFit, Looked};
+use super::clause::look_united;
+use super::clause::unite;
+use rules::field::set_at;
+use sets::Room;
+
+// Looks at the clause "the position is in the set": false where its room has no value of the set.
+pub(crate) fn look_single(rooms: &mut [u32; 64], position: u32, mask: u32, v: usize) -> bool
+    requires { ⌜ (1 ≤ position) × (position ≤ v) × (v ≤ 64) ⌝ }
+    ensures { λ r. ⌜ ((place : ℕ) → Looked (lookClauses place ((atomIn mask position ∷ []) ∷ []) (take v (now (rooms .entry)))) r (now (rooms .exit)) (drop v (now (rooms .entry)))) ⌝ }
+{
+    let i = position as usize - 1;
+    let room = Room { mask: rooms[i] };
+    let shared = room.common(Room { mask });
+    if shared.mask == 0 {
+        return false;
+    }
+    rooms[i] = shared.mask;
+    true
+}
+
+// Looks at the clauses "it is in the set" of the positions that the first so many bytes name.
+pub(crate) fn look_inside(
+    rooms: &mut [u32; 64],
+    positions: &[u8],
+    count: usize,
+    mask: u32,
+    v: usize,
+) -> bool
+    requires { ⌜ (count ≤ length (now positions)) × (v ≤ 64) × PositionsFit v (take count (now positions)) ⌝ }
+    ensures { λ r. ⌜ ((place : ℕ) → Looked (lookClauses place (map (λ p. atomIn mask p ∷ []) (take count (now (positions .entry)))) (take v (now (rooms .entry)))) r (now (rooms .exit)) (drop v (now (rooms .entry)))) ⌝ }
+{
+    let mut i = 0;
+    while i < count {
+        if !look_single(rooms, positions[i] as u32, mask, v) {
+            return false;
+        }
+        i += 1;
+    }
+    true
+}
+
+// The list of the 64 united sets of the clause "one of the positions is in the set", for the
+// positions that the first so many bytes name.
+pub(crate) fn united_positions(positions: &[u8], count: usize, mask: u32) -> [u32; 64]
+    requires { ⌜ (count ≤ length (now positions)) × PositionsFit 64 (take count (now positions)) ⌝ }
+    ensures { λ r. ⌜ r ≡ unitedSets (map (atomIn mask) (take count (now (positions .entry)))) ⌝ }
+{
+    let mut united = [0u32; 64];
+    let mut left = count;
+    while left > 0 {
+        left -= 1;
+        unite(&mut united, positions[left] as u32, mask);
+    }
+    united
+}
+
+// Looks at the clauses "one of the positions is in {x}" of the values x of the set, rising.
+pub(crate) fn look_values(
+    rooms: &mut [u32; 64],
+    positions: &[u8],
+    count: usize,
+    mask: u32,
+    v: usize,
+) -> bool
+    requires { ⌜ (count ≤ length (now positions)) × (v ≤ 64) × PositionsFit v (take count (now positions)) ⌝ }
+    ensures { λ r. ⌜ ((place : ℕ) → Looked (lookClauses place (map (λ x. map (atomIn (single x)) (take count (now (positions .entry)))) (values mask)) (take v (now (rooms .entry)))) r (now (rooms .exit)) (drop v (now (rooms .entry)))) ⌝ }
+{
+    let mut left = mask;
+    while left != 0 {
+        let open = Room { mask: left };
+        let one = Room::single(open.smallest());
+        let united = united_positions(positions, count, one.mask);
+        if !look_united(rooms, &united, v) {
+            return false;
+        }
+        left = open.common(one.complement(Room::VALUES)).mask;
+    }
+    true
+}
+
+// Looks at the equality that a content of so many bytes is.
+pub(crate) fn look_equality(rooms: &mut [u32; 64], content: &[u8], len: usize, v: usize) -> bool
+    requires { ⌜ (4 ≤ len) × (len ≤ length (now content)) × (v ≤ 64) × PositionsFit v (take (len - 4) (drop 4 (now content))) ⌝ }
+    ensures { λ r. ⌜ ((place : ℕ) → Looked (lookRule place (ruleOf Equality len (now (content .entry))) (take v (now (rooms .entry)))) r (now (rooms .exit)) (drop v (now (rooms .entry)))) ⌝ }
+{
+    let mask = set_at(content, 0);
+    let positions = &content[4..];
+    if !look_inside(rooms, positions, len - 4, mask, v) {
+        return false;
+    }
+    look_values(rooms, positions, len - 4, mask, v)
+}

@@ -1,0 +1,119 @@
+// Whether a box is settled: a nested scan over fields and atoms, which leaves a field at the first
+// atom that shows it. The contracts cite the search of `steps`.
+ghost use mathlib.Core.Path.{_≡_};
+ghost use mathlib.Core.List.{map};
+ghost use Prim.Native.Nat.{ℕ, _+_, _-_, _≤_, _<_};
+ghost use lib.ListN.{length, take, drop};
+ghost use Rattle.sets.specs.Sets.{single, values};
+ghost use Rattle.rules.specs.Clauses.{atomIn};
+ghost use Rattle.rules.specs.Reading.{ruleOf};
+ghost use Rattle.rules.specs.declared.field.Tag.the-variants.{Equality};
+ghost use Rattle.steps.specs.Shrinking.{settledBy, settledClauses, settledRule, settled};
+ghost use Rattle.boxes.specs.United.{PositionsFit};
+ghost use Rattle.boxes.specs.Rooms.{SoundInput, fieldsIn, everyInside, someInside};
+use super::clause::united_atoms;
+use rules::field::Tag;
+use rules::field::atom_at;
+use rules::field::head_at;
+use rules::field::set_at;
+use sets::Room;
+
+// Whether every position that the first so many bytes name has its room inside the set.
+fn every_inside(rooms: &[u32; 64], positions: &[u8], count: usize, mask: u32, v: usize) -> bool
+    requires { ⌜ (count ≤ length (now positions)) × (v ≤ 64) × PositionsFit v (take count (now positions)) ⌝ }
+    ensures { λ r. ⌜ r ≡ everyInside (take v (now (rooms .entry))) mask (take count (now (positions .entry))) ⌝ }
+{
+    let mut i = 0;
+    while i < count {
+        let at = positions[i] as usize - 1;
+        let room = Room { mask: rooms[at] };
+        if !room.inside(Room { mask }) {
+            return false;
+        }
+        i += 1;
+    }
+    true
+}
+
+// Whether some position that the first so many bytes name has its room inside the set.
+fn some_inside(rooms: &[u32; 64], positions: &[u8], count: usize, mask: u32, v: usize) -> bool
+    requires { ⌜ (count ≤ length (now positions)) × (v ≤ 64) × PositionsFit v (take count (now positions)) ⌝ }
+    ensures { λ r. ⌜ r ≡ someInside (take v (now (rooms .entry))) mask (take count (now (positions .entry))) ⌝ }
+{
+    let mut i = 0;
+    while i < count {
+        let at = positions[i] as usize - 1;
+        let room = Room { mask: rooms[at] };
+        if room.inside(Room { mask }) {
+            return true;
+        }
+        i += 1;
+    }
+    false
+}
+
+// Whether for every value of the set some named position has that value alone in its room.
+fn every_value_taken(rooms: &[u32; 64], positions: &[u8], count: usize, mask: u32, v: usize) -> bool
+    requires { ⌜ (count ≤ length (now positions)) × (v ≤ 64) × PositionsFit v (take count (now positions)) ⌝ }
+    ensures { λ r. ⌜ r ≡ settledClauses (take v (now (rooms .entry))) (map (λ x. map (atomIn (single x)) (take count (now (positions .entry)))) (values mask)) ⌝ }
+{
+    let mut left = mask;
+    while left != 0 {
+        let open = Room { mask: left };
+        let one = Room::single(open.smallest());
+        if !some_inside(rooms, positions, count, one.mask, v) {
+            return false;
+        }
+        left = open.common(one.complement(Room::VALUES)).mask;
+    }
+    true
+}
+
+// Whether the equality that a content of so many bytes is, is settled.
+fn settled_equality(rooms: &[u32; 64], content: &[u8], len: usize, v: usize) -> bool
+    requires { ⌜ (4 ≤ len) × (len ≤ length (now content)) × (v ≤ 64) × PositionsFit v (take (len - 4) (drop 4 (now content))) ⌝ }
+    ensures { λ r. ⌜ r ≡ settledRule (take v (now (rooms .entry))) (ruleOf Equality len (now (content .entry))) ⌝ }
+{
+    let mask = set_at(content, 0);
+    let positions = &content[4..];
+    if !every_inside(rooms, positions, len - 4, mask, v) {
+        return false;
+    }
+    every_value_taken(rooms, positions, len - 4, mask, v)
+}
+
+// Whether the box of the first v rooms is settled under the rules of a sound file: every clause has
+// a position whose room lies inside the union of its sets.
+pub fn settled(input: &[u8], v: usize, rooms: &[u32; 64]) -> bool
+    requires { ⌜ SoundInput (now input) v ⌝ }
+    ensures { λ r. ⌜ r ≡ settled (fieldsIn (now (input .entry))) (take v (now (rooms .entry))) ⌝ }
+{
+    let mut at = 5;
+    'fields: while at < input.len() {
+        let head = head_at(input, at);
+        let kind = head.kind;
+        let len = head.length;
+        let from = at + 3;
+        let content = &input[from..];
+        at = from + len;
+        if let Tag::Equality = kind {
+            if !settled_equality(rooms, content, len, v) {
+                return false;
+            }
+            continue 'fields;
+        }
+        let united = united_atoms(content, len / 5);
+        let mut i = 0;
+        while i < len {
+            let atom = atom_at(content, i);
+            let p = atom.position as usize - 1;
+            let room = Room { mask: rooms[p] };
+            if room.inside(Room { mask: united[p] }) {
+                continue 'fields;
+            }
+            i += 5;
+        }
+        return false;
+    }
+    true
+}

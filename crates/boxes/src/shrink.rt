@@ -1,0 +1,107 @@
+// Shrinking a box: rounds over all fields of a sound file, read from the input's own bytes, until
+// one changes nothing or finds a dead field. The contracts cite specs/Rooms.antt.
+ghost use mathlib.Core.Path.{_≡_};
+ghost use mathlib.Core.Logic.{_⊎_};
+ghost use Prim.Native.Nat.{ℕ, _+_, _≤_, _<_};
+ghost use lib.ListN.{length, take, drop};
+ghost use Rattle.rules.specs.Reading.{fieldFault, ruleAt};
+ghost use Rattle.steps.specs.Boxes.{Rooms};
+ghost use Rattle.steps.specs.Shrinking.{lookRule, round, sameRooms, shrunk};
+ghost use Rattle.boxes.specs.United.{Looked};
+ghost use Rattle.boxes.specs.Rooms.{SoundInput, fieldsIn, Rounded, shrunkRooms};
+use super::clause::look_united;
+use super::clause::united_atoms;
+use super::equality::look_equality;
+use rules::field::Tag;
+use rules::field::head_at;
+
+// What shrinking finds: the box lives, or a field with this place is dead.
+pub enum Verdict {
+    Alive,
+    Dead(usize),
+}
+
+// The verdict, and the rooms of a box that lives.
+pub struct Shrunk {
+    pub verdict: Verdict,
+    pub rooms: [u32; 64],
+}
+
+// Looks at the field that starts at `at`: false where it is dead; else its cuts are made.
+pub(crate) fn look_field(input: &[u8], at: usize, v: usize, rooms: &mut [u32; 64]) -> bool
+    requires { ⌜ (at < length (now input)) × (v ≤ 64) × ((n : ℕ) × (fieldFault v n (drop at (now input)) ≡ 0)) ⌝ }
+    ensures { λ r. ⌜ ((place : ℕ) → Looked (lookRule place (ruleAt (drop at (now (input .entry)))) (take v (now (rooms .entry)))) r (now (rooms .exit)) (drop v (now (rooms .entry)))) ⌝ }
+{
+    let head = head_at(input, at);
+    let kind = head.kind;
+    let len = head.length;
+    let from = at + 3;
+    let content = &input[from..];
+    match kind {
+        Tag::Header => true,
+        Tag::Clause => {
+            let united = united_atoms(content, len / 5);
+            look_united(rooms, &united, v)
+        }
+        Tag::Equality => look_equality(rooms, content, len, v),
+        Tag::Unknown => true,
+    }
+}
+
+// One round: looks at every field in the order of the file.
+pub(crate) fn look_round(input: &[u8], v: usize, rooms: &mut [u32; 64]) -> Verdict
+    requires { ⌜ SoundInput (now input) v ⌝ }
+    ensures { λ r. ⌜ Rounded (round (fieldsIn (now (input .entry))) (take v (now (rooms .entry)))) r (now (rooms .exit)) (drop v (now (rooms .entry))) ⌝ }
+{
+    let mut at = 5;
+    while at < input.len() {
+        if !look_field(input, at, v, rooms) {
+            return Verdict::Dead(at);
+        }
+        at += 3 + head_at(input, at).length;
+    }
+    Verdict::Alive
+}
+
+// Whether the first v rooms of both are the same.
+pub(crate) fn same(a: &[u32; 64], b: &[u32; 64], v: usize) -> bool
+    requires { ⌜ v ≤ 64 ⌝ }
+    ensures { λ r. ⌜ r ≡ sameRooms (take v (now (a .entry))) (take v (now (b .entry))) ⌝ }
+{
+    // As slices both are known to have 64 rooms.
+    let left: &[u32] = a;
+    let right: &[u32] = b;
+    let mut i = 0;
+    while i < v {
+        if left[i] != right[i] {
+            return false;
+        }
+        i += 1;
+    }
+    true
+}
+
+// Shrinks the box of the first v rooms under the rules of a sound file: the rooms as they are where
+// nothing is left to cut, or the place of the field first found dead, with no rooms.
+pub fn shrink(input: &[u8], v: usize, rooms: [u32; 64]) -> Shrunk
+    requires { ⌜ SoundInput (now input) v × Rooms (take v rooms) ⌝ }
+    ensures { λ r. ⌜ r ≡ shrunkRooms (shrunk (fieldsIn (now (input .entry))) (take v rooms)) (drop v rooms) ⌝ }
+{
+    let mut next = rooms;
+    loop {
+        let before = next;
+        let verdict = look_round(input, v, &mut next);
+        if let Verdict::Dead(place) = verdict {
+            return Shrunk {
+                verdict: Verdict::Dead(place),
+                rooms: [0u32; 64],
+            };
+        }
+        if same(&next, &before, v) {
+            return Shrunk {
+                verdict: Verdict::Alive,
+                rooms: next,
+            };
+        }
+    }
+}
