@@ -39,6 +39,14 @@ sound-limits s v input =
     let same = start .2 ∙ input .positions in
     omega arith
 
+-- and 1 to 32 values
+pub sound-values : (s : List ℕ) (v : ℕ) → SoundInput s v → (1 ≤ fileOf (reading s) .n) × (fileOf (reading s) .n ≤ 32)
+sound-values s v input =
+    let header = header-read s (fileOf (reading s)) (input .read) in
+    let start = rest-start s (fileOf (reading s)) (input .read) in
+    let same = start .3 in
+    omega arith
+
 -- behind the header stand the fields of the file
 pub sound-rest : (s : List ℕ) (v : ℕ) → SoundInput s v → Rest v (fileOf (reading s) .n) s 5 (fieldsIn s)
 unfolding fieldsIn

@@ -6,4 +6,5 @@ pub mod LooksInTurn
 pub mod RoomLists
 pub mod SettleLaws
 pub mod ShrinkRounds
+pub mod Unique
 pub mod UnitedLaws

@@ -1,0 +1,109 @@
+// The line that is printed for one call of `plan`.
+ghost use Prim.Native.Nat.{_≤_};
+ghost use lib.ListN.{length};
+use libc::STDOUT_FILENO;
+use planner::plan::Reply;
+use planner::plan::plan;
+
+// Calls `plan` with a buffer of 70 bytes and prints the line, which starts with the name. The file
+// has v positions; v is 0 where it has no header that is read.
+pub(crate) fn show(name: &[u8], input: &[u8], allowance: u64, v: usize)
+    requires { ⌜ v ≤ 64 ⌝ }
+{
+    show_lent(name, input, 70, allowance, v);
+}
+
+// The same where only so many of the 70 bytes are lent to `plan`.
+pub(crate) fn show_lent(name: &[u8], input: &[u8], lent: usize, allowance: u64, v: usize)
+    requires { ⌜ (lent ≤ 70) × (v ≤ 64) ⌝ }
+{
+    let mut buffer = filled();
+    let reply = reply_to(input, &mut buffer, lent, allowance);
+    io::write_all(STDOUT_FILENO, name);
+    let written = numbers(reply, v);
+    values(&buffer, written);
+    if kept(&buffer, written) {
+        io::write_all(STDOUT_FILENO, b" kept\n");
+    } else {
+        io::write_all(STDOUT_FILENO, b" touched\n");
+    }
+}
+
+// What `plan` replies where so many bytes of the buffer are lent to it.
+fn reply_to(input: &[u8], buffer: &mut [u8], lent: usize, allowance: u64) -> Reply
+    requires { ⌜ lent ≤ length (now buffer) ⌝ }
+{
+    plan(input, &mut buffer[..lent], allowance)
+}
+
+// The byte at a place of the buffer before the call: 200 to 249 in turn, none of them a value.
+fn pattern(place: usize) -> u8 {
+    (200 + place % 50) as u8
+}
+
+// A buffer before the call.
+fn filled() -> [u8; 70] {
+    let mut buffer = [0; 70];
+    for i in 0..70 {
+        buffer[i] = pattern(i);
+    }
+    buffer
+}
+
+// Whether every byte of the buffer from a place on is what it was before the call.
+fn kept(buffer: &[u8; 70], from: usize) -> bool {
+    let mut i = from;
+    while i < 70 {
+        if buffer[i] != pattern(i) {
+            return false;
+        }
+        i += 1;
+    }
+    true
+}
+
+// Prints the number, the place, the splits and the dead ends of a reply, and answers how many
+// bytes of the buffer it may write: v for a plan, and none for every other reply.
+fn numbers(reply: Reply, v: usize) -> usize
+    ensures { λ r. ⌜ r ≤ v ⌝ }
+{
+    match reply {
+        Reply::Plan { splits, dead_ends } => {
+            four(0, 0, splits, dead_ends);
+            return v;
+        }
+        Reply::None { splits, dead_ends } => four(1, 0, splits, dead_ends),
+        Reply::Undecided { splits, dead_ends } => four(2, 0, splits, dead_ends),
+        Reply::Stalled { splits, dead_ends } => four(21, 0, splits, dead_ends),
+        Reply::Refused { number, place } => four(number as u64, place as u64, 0, 0),
+    }
+    0
+}
+
+// Four numbers, each after a space.
+fn four(number: u64, place: u64, splits: u64, dead_ends: u64) {
+    spaced(number);
+    spaced(place);
+    spaced(splits);
+    spaced(dead_ends);
+}
+
+// The first so many bytes of the buffer as numbers, each after a space.
+fn values(buffer: &[u8; 70], count: usize)
+    requires { ⌜ count ≤ 70 ⌝ }
+{
+    for i in 0..count {
+        spaced(wide(buffer[i]));
+    }
+}
+
+// A space and a number in decimal.
+fn spaced(number: u64) {
+    io::write_all(STDOUT_FILENO, b" ");
+    io::print_decimal(STDOUT_FILENO, number);
+}
+
+// A byte as a number to print.
+fn wide(byte: u8) -> u64 {
+    byte as u64
+}

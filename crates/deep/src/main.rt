@@ -1,0 +1,25 @@
+// Runs `plan` on a file whose search is nearly as deep as a search can be, and prints the reply in
+// one line: its number, place, splits and dead ends, and the 64 bytes of the answer. It shows that
+// this depth fits a stack of 8 MiB.
+//
+// The file has v 64 and n 32. Each position p from 1 to 63 has the clauses [p{32} q{1}] and
+// [p{32} q{2}], where q is position 64; the clause [q{1,2}] is last and leaves q the room {1,2}. A
+// value of p below 32 makes the first of p's clauses cut q's room to {1}, and the second is then
+// dead. So the values 1 to 31 of each of the 63 positions fail one after another, each in a box of
+// its own, and every search of the other values is a call within the last: 1953 splits, 1953 dead
+// ends, and 1954 calls open at once, where no file can reach more than 1985. Then every p is 32, and
+// q is 1.
+//
+// The file `stdout` beside src/ has the line that is right. It follows from this account; a search
+// written from 01's text alone, with sets of values in place of masks, gave the same.
+mod file;
+mod line;
+
+use planner::plan::plan;
+
+fn main() {
+    let input = file::deep();
+    let mut answer = [0; 64];
+    let reply = plan(&input, &mut answer, 1_000_000);
+    line::show(reply, &answer);
+}

@@ -1,0 +1,6 @@
+pub mod AnsweredLaws
+pub mod BufferLaws
+pub mod PromiseLaws
+pub mod ReplyLaws
+pub mod SearchTurns
+pub mod Unique

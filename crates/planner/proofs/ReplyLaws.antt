@@ -1,0 +1,93 @@
+-- Laws of replies: which reply an accepted call has, what its number tells of the answer, and what it leaves in the buffer. Assumes nothing.
+use mathlib.Core.Path.{_≡_, refl, subst}
+use mathlib.Core.Bool.{Bool, true, false}
+use mathlib.Core.List.{List, [], _++_}
+use mathlib.Core.Logic.{_↔_}
+use Prim.Native.Nat.{ℕ, _+_, _-_, _≤_}
+use native.Mathlib.Omega.{arith}
+use borrow.Author.Tests.{le-ltb}
+use lib.ListN.{length, getD, drop}
+use lib.Seq.{getD-append-add, getD-drop}
+use Rattle.rules.specs.Rules.{File}
+use Rattle.rules.specs.Reading.{Reading, sound, refused}
+use Rattle.steps.specs.Shrinking.{ifTest}
+use Rattle.steps.specs.Search.{Answer, plan, none, undecided, stalled}
+use Rattle.steps.specs.Reply.{Reply, numberOf, valuesOf, refusal, replied, planned, ofReading, replyOf}
+use Rattle.planner.specs.Promise.{Accepted}
+
+-- behind the bytes that were written in front, a buffer is as it was
+pub getD-behind : (xs ys : List ℕ) (i d : ℕ) → length xs ≤ i → getD (xs ++ drop (length xs) ys) i d ≡ getD ys i d
+getD-behind xs ys i d h = subst (λ (j : ℕ). getD (xs ++ drop (length xs) ys) j d ≡ getD ys j d) so-far (rw (getD-append-add, getD-drop))
+  where
+    so-far : length xs + (i - length xs) ≡ i
+    so-far = omega arith
+
+-- a call that is not refused has the reply of the file's search
+pub accepted-reply : (input before : List ℕ) (allowed : ℕ) (file : File) → Accepted input before allowed file
+    → replyOf input (length before) allowed ≡ replied (planned file allowed)
+unfolding replyOf ofReading
+accepted-reply input before allowed file accepted =
+    simp (le-ltb 32768 (length input) (accepted .short), le-ltb (length before) 64 (accepted .roomy), le-ltb 1000000 allowed (accepted .modest), accepted .read)
+
+-- ---- the numbers of the answers
+
+-- 0 is a plan's number
+pub number-of-plan : (x : Answer) → (numberOf x ≡ 0) ↔ ((a : List ℕ) × (x ≡ plan a))
+unfolding numberOf
+number-of-plan x = (forth x, λ p. rw (p .1))
+  where
+    forth : (x : Answer) → numberOf x ≡ 0 → (a : List ℕ) × (x ≡ plan a)
+    forth (plan a) e = (a, refl)
+    forth none e = absurd (omega arith)
+    forth undecided e = absurd (omega arith)
+    forth stalled e = absurd (omega arith)
+
+-- 1 is that of none
+pub number-of-none : (x : Answer) → (numberOf x ≡ 1) ↔ (x ≡ none)
+unfolding numberOf
+number-of-none x = (forth x, λ e. rw e)
+  where
+    forth : (x : Answer) → numberOf x ≡ 1 → x ≡ none
+    forth (plan a) e = absurd (omega arith)
+    forth none e = refl
+    forth undecided e = absurd (omega arith)
+    forth stalled e = absurd (omega arith)
+
+-- 2 is that of undecided
+pub number-of-undecided : (x : Answer) → (numberOf x ≡ 2) ↔ (x ≡ undecided)
+unfolding numberOf
+number-of-undecided x = (forth x, λ e. rw e)
+  where
+    forth : (x : Answer) → numberOf x ≡ 2 → x ≡ undecided
+    forth (plan a) e = absurd (omega arith)
+    forth none e = absurd (omega arith)
+    forth undecided e = refl
+    forth stalled e = absurd (omega arith)
+
+-- ---- only a plan has values
+
+-- no values, where the number is not 0
+abbrev Silent : Reply → Type 0
+Silent g = (g .number ≡ 0 → ⊥) → g .values ≡ []
+
+answer-silent : (x : Answer) → (numberOf x ≡ 0 → ⊥) → valuesOf x ≡ []
+unfolding numberOf valuesOf
+answer-silent (plan a) h = absurd (h refl)
+answer-silent none h = refl
+answer-silent undecided h = refl
+answer-silent stalled h = refl
+
+test-silent : (b : Bool) (number place : ℕ) (rest : Unit {0} → Reply) → Silent (rest tt) → Silent (ifTest b (refusal number place) rest)
+unfolding refusal
+test-silent true number place rest s h = refl
+test-silent false number place rest s h = s h
+
+reading-silent : (found : Reading) (allowed : ℕ) → Silent (ofReading found allowed)
+unfolding ofReading refusal replied
+reading-silent (sound file) allowed h = answer-silent (planned file allowed .answer) h
+reading-silent (refused number place) allowed h = refl
+
+-- a reply whose number is not 0 has no values
+pub reply-silent : (input : List ℕ) (buffer allowed : ℕ) → (replyOf input buffer allowed .number ≡ 0 → ⊥) → replyOf input buffer allowed .values ≡ []
+unfolding replyOf
+reply-silent input buffer allowed = search (test-silent, reading-silent)
