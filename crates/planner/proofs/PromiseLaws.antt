@@ -16,11 +16,11 @@ use Rattle.steps.specs.Search.{Answer, plan, none, undecided, stalled}
 use Rattle.steps.specs.Special.{special}
 use Rattle.steps.specs.Reply.{numberOf, valuesOf, replied, planned, needed, replyOf}
 use Rattle.steps.specs.Reply as steps
-use Rattle.steps.proofs.Demands.{plan-first, plan-exactly, none-exactly, undecided-exactly, splits-bound, special-decides}
+use Rattle.steps.proofs.Demands.{plan-first, plan-exactly, none-exactly, undecided-exactly, splits-bound, special-decides, never-stalled}
 use Rattle.planner.specs.declared.plan.Reply.{Reply}
 use Rattle.planner.specs.Numbers.{Numbers, numbersOf, numbersGiven, Answered}
 use Rattle.planner.specs.Promise.{Accepted, Planned}
-use Rattle.planner.proofs.ReplyLaws.{getD-behind, accepted-reply, number-of-plan, number-of-none, number-of-undecided, reply-silent}
+use Rattle.planner.proofs.ReplyLaws.{getD-behind, accepted-reply, number-of-plan, number-of-none, number-of-undecided, number-small, reply-silent, reply-refuses}
 
 module _ (input before after : List ℕ) (allowed : ℕ) (r : Reply) (bytes : Every (λ b. b < 256) input)
     (answered : Answered (replyOf input (length before) allowed) r before after) (file : File) (accepted : Accepted input before allowed file) where
@@ -68,6 +68,9 @@ module _ (input before after : List ℕ) (allowed : ℕ) (r : Reply) (bytes : Ev
       let few = values-few (planned file allowed .answer) refl in
       rw values-found (getD-behind (valuesOf (planned file allowed .answer)) before i 0 (omega arith))
 
+  decided-found : numbersOf r .number ≤ 2
+  decided-found = rw number-found (number-small (planned file allowed .answer) (never-stalled file within allowed))
+
   plan-found-exactly : (numbersOf r .number ≡ 0) ↔ (((a : List ℕ) × Plan file a) × (needed file ≤ allowed))
   plan-found-exactly = simp (number-found, number-of-plan) (plan-exactly file within allowed)
 
@@ -106,6 +109,10 @@ pub promise-kept : (input before after : List ℕ) (allowed : ℕ) (r : Reply) �
 promise-kept input before after allowed r bytes answered =
     record {
       answered = answered;
+      decided = decided-found input before after allowed r bytes answered;
+      refused = λ nobody.
+          subst (λ (k : ℕ). (10 ≤ k) × (k ≤ 20)) (sym (ap (λ (n : Numbers). n .number) (answered .numbers)))
+          (reply-refuses input (length before) allowed (λ file short roomy modest read. nobody file (record { short = short; roomy = roomy; modest = modest; read = read })));
       kept = λ other.
           answered .memory
           ∙ ap (λ (values : List ℕ). values ++ drop (length values) before)

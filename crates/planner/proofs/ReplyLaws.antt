@@ -5,11 +5,13 @@ use mathlib.Core.List.{List, [], _++_}
 use mathlib.Core.Logic.{_↔_}
 use Prim.Native.Nat.{ℕ, _+_, _-_, _≤_}
 use native.Mathlib.Omega.{arith}
-use borrow.Author.Tests.{le-ltb}
+use borrow.Author.Tests.{le-ltb, ltb-false}
+use lib.Dec.{ltb}
 use lib.ListN.{length, getD, drop}
 use lib.Seq.{getD-append-add, getD-drop}
 use Rattle.rules.specs.Rules.{File}
-use Rattle.rules.specs.Reading.{Reading, sound, refused}
+use Rattle.rules.specs.Reading.{Reading, sound, refused, reading}
+use Rattle.rules.proofs.RefusalLaws.{refused-number}
 use Rattle.steps.specs.Shrinking.{ifTest}
 use Rattle.steps.specs.Search.{Answer, plan, none, undecided, stalled}
 use Rattle.steps.specs.Reply.{Reply, numberOf, valuesOf, refusal, replied, planned, ofReading, replyOf}
@@ -91,3 +93,35 @@ reading-silent (refused number place) allowed h = refl
 pub reply-silent : (input : List ℕ) (buffer allowed : ℕ) → (replyOf input buffer allowed .number ≡ 0 → ⊥) → replyOf input buffer allowed .values ≡ []
 unfolding replyOf
 reply-silent input buffer allowed = search (test-silent, reading-silent)
+
+-- an answer that is no stall has a number of at most 2
+pub number-small : (x : Answer) → (x ≡ stalled → ⊥) → numberOf x ≤ 2
+unfolding numberOf
+number-small (plan a) ne = omega arith
+number-small none ne = omega arith
+number-small undecided ne = omega arith
+number-small stalled ne = absurd (ne refl)
+
+-- a call that no file is accepted for gets a refusal
+pub reply-refuses : (input : List ℕ) (buffer allowed : ℕ)
+    → ((file : File) → length input ≤ 32768 → 64 ≤ buffer → allowed ≤ 1000000 → reading input ≡ sound file → ⊥)
+    → (10 ≤ replyOf input buffer allowed .number) × (replyOf input buffer allowed .number ≤ 20)
+unfolding replyOf ofReading refusal
+reply-refuses input buffer allowed nobody =
+    long (ltb 32768 (length input)) refl
+  where
+    read : (r : Reading) → reading input ≡ r → length input ≤ 32768 → 64 ≤ buffer → allowed ≤ 1000000 → (10 ≤ ofReading r allowed .number) × (ofReading r allowed .number ≤ 20)
+    read (sound file) e h g l = absurd (nobody file h g l e)
+    read (refused number place) e h g l = let n = refused-number input number place e in omega arith
+
+    many : (t : Bool) → ltb 1000000 allowed ≡ t → length input ≤ 32768 → 64 ≤ buffer → (10 ≤ replyOf input buffer allowed .number) × (replyOf input buffer allowed .number ≤ 20)
+    many true t h g = rw (le-ltb 32768 (length input) h, le-ltb buffer 64 g, t) (omega arith)
+    many false t h g = rw (le-ltb 32768 (length input) h, le-ltb buffer 64 g, t) (read (reading input) refl h g (ltb-false 1000000 allowed t))
+
+    narrow : (t : Bool) → ltb buffer 64 ≡ t → length input ≤ 32768 → (10 ≤ replyOf input buffer allowed .number) × (replyOf input buffer allowed .number ≤ 20)
+    narrow true t h = rw (le-ltb 32768 (length input) h, t) (omega arith)
+    narrow false t h = many (ltb 1000000 allowed) refl h (ltb-false buffer 64 t)
+
+    long : (t : Bool) → ltb 32768 (length input) ≡ t → (10 ≤ replyOf input buffer allowed .number) × (replyOf input buffer allowed .number ≤ 20)
+    long true t = rw t (omega arith)
+    long false t = narrow (ltb buffer 64) refl (ltb-false 32768 (length input) t)

@@ -2,7 +2,7 @@
 use super::line::show;
 
 // All of them, in this order.
-pub fn all() {
+pub(crate) fn all() {
     clause_positions();
     equality_positions();
     clause_sets();

@@ -2,7 +2,7 @@
 use super::line::show;
 
 // All of them, in this order.
-pub fn all() {
+pub(crate) fn all() {
     later_tags();
     cut_heads();
     clause_lengths();

@@ -4,7 +4,7 @@ use rules::check::Checked;
 use rules::check::check;
 
 // Checks a file and prints its line, which starts with the file's number in the list.
-pub fn show(number: u32, file: &[u8]) {
+pub(crate) fn show(number: u32, file: &[u8]) {
     io::print_decimal(STDOUT_FILENO, number as u64);
     let reply = check(file);
     match reply {

@@ -2,7 +2,7 @@
 use super::line::show;
 
 // All of them, in this order.
-pub fn all() {
+pub(crate) fn all() {
     order_in_a_field();
     second_fields();
     order_across_fields();
