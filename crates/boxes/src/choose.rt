@@ -33,7 +33,8 @@ pub fn first_half(rooms: [u32; 64], i: usize) -> [u32; 64]
 {
     let mut half = rooms;
     let room = Room { mask: rooms[i] };
-    half[i] = Room::single(room.smallest()).mask;
+    let one = Room::single(room.smallest());
+    half[i] = one.mask;
     half
 }
 

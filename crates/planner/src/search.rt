@@ -79,11 +79,13 @@ pub(crate) fn search(
     if allowed <= splits {
         return without_plan(Answer::Undecided, splits, dead_ends);
     }
+    let half = first_half(saved, i);
+    let rest = other_half(saved, i);
     let first = search(
         input,
         v,
         allowed,
-        first_half(saved, i),
+        half,
         splits + 1,
         dead_ends,
     );
@@ -93,7 +95,7 @@ pub(crate) fn search(
             input,
             v,
             allowed,
-            other_half(saved, i),
+            rest,
             first.splits,
             first.dead_ends,
         ),

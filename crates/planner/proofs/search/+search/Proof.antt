@@ -41,7 +41,7 @@ search-below t = and 1 search-kinds.ps (falls 1 search-kinds.ps _<_ μ-search t)
 
 -- what the calls ask and give
 abbrev claims : ℕ → search-lts.Claims
-claims t = (shrink-reads.Asked, shrink-reads.Learnt, without-plan-reads.Asked, without-plan-reads.Learnt, settled-reads.Asked, settled-reads.Learnt, smallest-values-reads.Asked, smallest-values-reads.Learnt, choose-reads.Asked, choose-reads.Learnt, first-half-reads.Asked, first-half-reads.Learnt, search-below t, search′.Post, other-half-reads.Asked, other-half-reads.Learnt)
+claims t = (shrink-reads.Asked, shrink-reads.Learnt, without-plan-reads.Asked, without-plan-reads.Learnt, settled-reads.Asked, settled-reads.Learnt, smallest-values-reads.Asked, smallest-values-reads.Learnt, choose-reads.Asked, choose-reads.Learnt, first-half-reads.Asked, first-half-reads.Learnt, other-half-reads.Asked, other-half-reads.Learnt, search-below t, search′.Post)
 
 -- at the entry: the positions are at most 64, and so many rooms there are
 positions : (t : ℕ) (c : search-lts.Start (claims t) (search-at t) search′.Post) → c .args .v ≤ 64
@@ -111,26 +111,26 @@ search-first-half-requires : (t : ℕ) → search-lts.Need-first-half-requires (
 search-first-half-requires t c κs = omega (arith, positions t (c .before .before .before .before .before .before .before .before .before .before .before .before), index t c .1)
 
 search-add-search : (t : ℕ) → search-lts.Need-add-search (claims t) (search-at t) search′.Post
-search-add-search t c = let counts = c .before .before .before .before .before .before .before .before .before .before .before .before .before .pre .1 .2 in omega (arith, c .before .if3 .left)
+search-add-search t c = let counts = c .before .before .before .before .before .before .before .before .before .before .before .before .before .before .pre .1 .2 in omega (arith, c .before .before .if3 .left)
 
 -- what was found in the first half is what the search finds in the first part
-found-first : (t : ℕ) (c : search-lts.After-search (claims t) (search-at t) search′.Post) → c .search .result ≡ foundOf (begun (fieldsIn (c .before .before .before .before .before .before .before .before .before .before .before .before .before .before .args .input .now)) (c .before .before .before .before .before .before .before .before .before .before .before .before .before .before .args .v) (c .before .before .before .before .before .before .before .before .before .before .before .before .before .before .args .rooms) (positions t (c .before .before .before .before .before .before .before .before .before .before .before .before .before .before)) (rooms-long t (c .before .before .before .before .before .before .before .before .before .before .before .before .before .before)) (c .before .before .before .before .before .before .before .before .before .before .before .before .before .before .pre .1 .1) (c .before .before .before .before .before .before .before .before .before .before .before .before .before .before .args .allowed) (c .before .before .before .before .before .before .before .before .before .before .before .before .before .before .args .splits) (c .before .before .before .before .before .before .before .before .before .before .before .before .before .before .args .dead-ends) (c .before .before .before .before .before .before .before .before .before .before .before .before .shrink .result .rooms) (kept t (c .before .before .before .before .before .before .before .before .before)) (c .before .before .before .before .choose .result) (unsettled t (c .before .before)) (index t (c .before .before) .0) (index t (c .before .before) .1))
+found-first : (t : ℕ) (c : search-lts.After-search (claims t) (search-at t) search′.Post) → c .search .result ≡ foundOf (begun (fieldsIn (c .before .before .before .before .before .before .before .before .before .before .before .before .before .before .before .args .input .now)) (c .before .before .before .before .before .before .before .before .before .before .before .before .before .before .before .args .v) (c .before .before .before .before .before .before .before .before .before .before .before .before .before .before .before .args .rooms) (positions t (c .before .before .before .before .before .before .before .before .before .before .before .before .before .before .before)) (rooms-long t (c .before .before .before .before .before .before .before .before .before .before .before .before .before .before .before)) (c .before .before .before .before .before .before .before .before .before .before .before .before .before .before .before .pre .1 .1) (c .before .before .before .before .before .before .before .before .before .before .before .before .before .before .before .args .allowed) (c .before .before .before .before .before .before .before .before .before .before .before .before .before .before .before .args .splits) (c .before .before .before .before .before .before .before .before .before .before .before .before .before .before .before .args .dead-ends) (c .before .before .before .before .before .before .before .before .before .before .before .before .before .shrink .result .rooms) (kept t (c .before .before .before .before .before .before .before .before .before .before)) (c .before .before .before .before .before .choose .result) (unsettled t (c .before .before .before)) (index t (c .before .before .before) .0) (index t (c .before .before .before) .1))
 found-first t c =
-    let a = c .before .before .before .before .before .before .before .before .before .before .before .before .before .before .args in
-    first-found (fieldsIn (c .before .before .before .before .before .before .before .before .before .before .before .before .before .before .args .input .now)) (c .before .before .before .before .before .before .before .before .before .before .before .before .before .before .args .v) (c .before .before .before .before .before .before .before .before .before .before .before .before .before .before .args .rooms) (positions t (c .before .before .before .before .before .before .before .before .before .before .before .before .before .before)) (rooms-long t (c .before .before .before .before .before .before .before .before .before .before .before .before .before .before)) (c .before .before .before .before .before .before .before .before .before .before .before .before .before .before .pre .1 .1) (c .before .before .before .before .before .before .before .before .before .before .before .before .before .before .args .allowed) (c .before .before .before .before .before .before .before .before .before .before .before .before .before .before .args .splits) (c .before .before .before .before .before .before .before .before .before .before .before .before .before .before .args .dead-ends) (c .before .before .before .before .before .before .before .before .before .before .before .before .shrink .result .rooms) (kept t (c .before .before .before .before .before .before .before .before .before)) (c .before .before .before .before .choose .result) (unsettled t (c .before .before)) (index t (c .before .before) .0) (index t (c .before .before) .1) (c .search .result)
-    (c .search .ensures ∙ ap (λ (half : List ℕ). foundOf (searchOf (suc (openValues (take (a .v) half))) (fieldsIn (a .input .now)) (a .allowed) (take (a .v) half) (a .splits + 1) (a .dead-ends))) (c .before .first-half .ensures))
+    let a = c .before .before .before .before .before .before .before .before .before .before .before .before .before .before .before .args in
+    first-found (fieldsIn (c .before .before .before .before .before .before .before .before .before .before .before .before .before .before .before .args .input .now)) (c .before .before .before .before .before .before .before .before .before .before .before .before .before .before .before .args .v) (c .before .before .before .before .before .before .before .before .before .before .before .before .before .before .before .args .rooms) (positions t (c .before .before .before .before .before .before .before .before .before .before .before .before .before .before .before)) (rooms-long t (c .before .before .before .before .before .before .before .before .before .before .before .before .before .before .before)) (c .before .before .before .before .before .before .before .before .before .before .before .before .before .before .before .pre .1 .1) (c .before .before .before .before .before .before .before .before .before .before .before .before .before .before .before .args .allowed) (c .before .before .before .before .before .before .before .before .before .before .before .before .before .before .before .args .splits) (c .before .before .before .before .before .before .before .before .before .before .before .before .before .before .before .args .dead-ends) (c .before .before .before .before .before .before .before .before .before .before .before .before .before .shrink .result .rooms) (kept t (c .before .before .before .before .before .before .before .before .before .before)) (c .before .before .before .before .before .choose .result) (unsettled t (c .before .before .before)) (index t (c .before .before .before) .0) (index t (c .before .before .before) .1) (c .search .result)
+    (c .search .ensures ∙ ap (λ (half : List ℕ). foundOf (searchOf (suc (openValues (take (a .v) half))) (fieldsIn (a .input .now)) (a .allowed) (take (a .v) half) (a .splits + 1) (a .dead-ends))) (c .before .before .first-half .ensures))
 
 search-search-requires : (t : ℕ) → search-lts.Need-search-requires (claims t) (search-at t) search′.Post
-search-search-requires t c κs = (subst (λ (k : ℕ). openValues (take (c .before .before .before .before .before .before .before .before .before .before .before .before .before .args .v) (c .first-half .result)) < k) (c .before .before .before .before .before .before .before .before .before .before .before .before .before .pre .0) (subst (λ (l : List ℕ). openValues (take (c .before .before .before .before .before .before .before .before .before .before .before .before .before .args .v) l) < openValues (take (c .before .before .before .before .before .before .before .before .before .before .before .before .before .args .v) (c .before .before .before .before .before .before .before .before .before .before .before .before .before .args .rooms))) (sym (c .first-half .ensures)) (first-less (fieldsIn (c .before .before .before .before .before .before .before .before .before .before .before .before .before .args .input .now)) (c .before .before .before .before .before .before .before .before .before .before .before .before .before .args .v) (c .before .before .before .before .before .before .before .before .before .before .before .before .before .args .rooms) (positions t (c .before .before .before .before .before .before .before .before .before .before .before .before .before)) (rooms-long t (c .before .before .before .before .before .before .before .before .before .before .before .before .before)) (c .before .before .before .before .before .before .before .before .before .before .before .before .before .pre .1 .1) (c .before .before .before .before .before .before .before .before .before .before .before .before .before .args .allowed) (c .before .before .before .before .before .before .before .before .before .before .before .before .before .args .splits) (c .before .before .before .before .before .before .before .before .before .before .before .before .before .args .dead-ends) (c .before .before .before .before .before .before .before .before .before .before .before .shrink .result .rooms) (kept t (c .before .before .before .before .before .before .before .before)) (c .before .before .before .choose .result) (unsettled t (c .before)) (index t (c .before) .0) (index t (c .before) .1))), (c .before .before .before .before .before .before .before .before .before .before .before .before .before .pre .1 .0, subst (λ (l : List ℕ). Rooms (take (c .before .before .before .before .before .before .before .before .before .before .before .before .before .args .v) l)) (sym (c .first-half .ensures)) (first-rooms (fieldsIn (c .before .before .before .before .before .before .before .before .before .before .before .before .before .args .input .now)) (c .before .before .before .before .before .before .before .before .before .before .before .before .before .args .v) (c .before .before .before .before .before .before .before .before .before .before .before .before .before .args .rooms) (positions t (c .before .before .before .before .before .before .before .before .before .before .before .before .before)) (rooms-long t (c .before .before .before .before .before .before .before .before .before .before .before .before .before)) (c .before .before .before .before .before .before .before .before .before .before .before .before .before .pre .1 .1) (c .before .before .before .before .before .before .before .before .before .before .before .before .before .args .allowed) (c .before .before .before .before .before .before .before .before .before .before .before .before .before .args .splits) (c .before .before .before .before .before .before .before .before .before .before .before .before .before .args .dead-ends) (c .before .before .before .before .before .before .before .before .before .before .before .shrink .result .rooms) (kept t (c .before .before .before .before .before .before .before .before)) (c .before .before .before .choose .result) (unsettled t (c .before)) (index t (c .before) .0) (index t (c .before) .1)), first-counts (fieldsIn (c .before .before .before .before .before .before .before .before .before .before .before .before .before .args .input .now)) (c .before .before .before .before .before .before .before .before .before .before .before .before .before .args .v) (c .before .before .before .before .before .before .before .before .before .before .before .before .before .args .rooms) (positions t (c .before .before .before .before .before .before .before .before .before .before .before .before .before)) (rooms-long t (c .before .before .before .before .before .before .before .before .before .before .before .before .before)) (c .before .before .before .before .before .before .before .before .before .before .before .before .before .pre .1 .1) (c .before .before .before .before .before .before .before .before .before .before .before .before .before .args .allowed) (c .before .before .before .before .before .before .before .before .before .before .before .before .before .args .splits) (c .before .before .before .before .before .before .before .before .before .before .before .before .before .args .dead-ends) (c .before .before .before .before .before .before .before .before .before .before .before .shrink .result .rooms) (kept t (c .before .before .before .before .before .before .before .before)) (c .before .before .before .choose .result) (unsettled t (c .before)) (index t (c .before) .0) (index t (c .before) .1) (c .before .before .before .before .before .before .before .before .before .before .before .before .before .pre .1 .2) (c .before .if3 .left)))
+search-search-requires t c κs = (subst (λ (k : ℕ). openValues (take (c .before .before .before .before .before .before .before .before .before .before .before .before .before .before .args .v) (c .before .first-half .result)) < k) (c .before .before .before .before .before .before .before .before .before .before .before .before .before .before .pre .0) (subst (λ (l : List ℕ). openValues (take (c .before .before .before .before .before .before .before .before .before .before .before .before .before .before .args .v) l) < openValues (take (c .before .before .before .before .before .before .before .before .before .before .before .before .before .before .args .v) (c .before .before .before .before .before .before .before .before .before .before .before .before .before .before .args .rooms))) (sym (c .before .first-half .ensures)) (first-less (fieldsIn (c .before .before .before .before .before .before .before .before .before .before .before .before .before .before .args .input .now)) (c .before .before .before .before .before .before .before .before .before .before .before .before .before .before .args .v) (c .before .before .before .before .before .before .before .before .before .before .before .before .before .before .args .rooms) (positions t (c .before .before .before .before .before .before .before .before .before .before .before .before .before .before)) (rooms-long t (c .before .before .before .before .before .before .before .before .before .before .before .before .before .before)) (c .before .before .before .before .before .before .before .before .before .before .before .before .before .before .pre .1 .1) (c .before .before .before .before .before .before .before .before .before .before .before .before .before .before .args .allowed) (c .before .before .before .before .before .before .before .before .before .before .before .before .before .before .args .splits) (c .before .before .before .before .before .before .before .before .before .before .before .before .before .before .args .dead-ends) (c .before .before .before .before .before .before .before .before .before .before .before .before .shrink .result .rooms) (kept t (c .before .before .before .before .before .before .before .before .before)) (c .before .before .before .before .choose .result) (unsettled t (c .before .before)) (index t (c .before .before) .0) (index t (c .before .before) .1))), (c .before .before .before .before .before .before .before .before .before .before .before .before .before .before .pre .1 .0, subst (λ (l : List ℕ). Rooms (take (c .before .before .before .before .before .before .before .before .before .before .before .before .before .before .args .v) l)) (sym (c .before .first-half .ensures)) (first-rooms (fieldsIn (c .before .before .before .before .before .before .before .before .before .before .before .before .before .before .args .input .now)) (c .before .before .before .before .before .before .before .before .before .before .before .before .before .before .args .v) (c .before .before .before .before .before .before .before .before .before .before .before .before .before .before .args .rooms) (positions t (c .before .before .before .before .before .before .before .before .before .before .before .before .before .before)) (rooms-long t (c .before .before .before .before .before .before .before .before .before .before .before .before .before .before)) (c .before .before .before .before .before .before .before .before .before .before .before .before .before .before .pre .1 .1) (c .before .before .before .before .before .before .before .before .before .before .before .before .before .before .args .allowed) (c .before .before .before .before .before .before .before .before .before .before .before .before .before .before .args .splits) (c .before .before .before .before .before .before .before .before .before .before .before .before .before .before .args .dead-ends) (c .before .before .before .before .before .before .before .before .before .before .before .before .shrink .result .rooms) (kept t (c .before .before .before .before .before .before .before .before .before)) (c .before .before .before .before .choose .result) (unsettled t (c .before .before)) (index t (c .before .before) .0) (index t (c .before .before) .1)), first-counts (fieldsIn (c .before .before .before .before .before .before .before .before .before .before .before .before .before .before .args .input .now)) (c .before .before .before .before .before .before .before .before .before .before .before .before .before .before .args .v) (c .before .before .before .before .before .before .before .before .before .before .before .before .before .before .args .rooms) (positions t (c .before .before .before .before .before .before .before .before .before .before .before .before .before .before)) (rooms-long t (c .before .before .before .before .before .before .before .before .before .before .before .before .before .before)) (c .before .before .before .before .before .before .before .before .before .before .before .before .before .before .pre .1 .1) (c .before .before .before .before .before .before .before .before .before .before .before .before .before .before .args .allowed) (c .before .before .before .before .before .before .before .before .before .before .before .before .before .before .args .splits) (c .before .before .before .before .before .before .before .before .before .before .before .before .before .before .args .dead-ends) (c .before .before .before .before .before .before .before .before .before .before .before .before .shrink .result .rooms) (kept t (c .before .before .before .before .before .before .before .before .before)) (c .before .before .before .before .choose .result) (unsettled t (c .before .before)) (index t (c .before .before) .0) (index t (c .before .before) .1) (c .before .before .before .before .before .before .before .before .before .before .before .before .before .before .pre .1 .2) (c .before .before .if3 .left)))
 
 search-enum-told-3 : (t : ℕ) → search-lts.Need-enum-told-3 (claims t) (search-at t) search′.Post
 search-enum-told-3 t c = search needs
 
 search-other-half-requires : (t : ℕ) → search-lts.Need-other-half-requires (claims t) (search-at t) search′.Post
-search-other-half-requires t c κs = omega (arith, positions t (c .before .before .before .before .before .before .before .before .before .before .before .before .before .before .before .before), index t (c .before .before .before .before) .1)
+search-other-half-requires t c κs = omega (arith, positions t (c .before .before .before .before .before .before .before .before .before .before .before .before .before), index t (c .before) .1)
 
 search-search-requires-2 : (t : ℕ) → search-lts.Need-search-requires-2 (claims t) (search-at t) search′.Post
-search-search-requires-2 t c κs = (subst (λ (k : ℕ). openValues (take (c .before .before .before .before .before .before .before .before .before .before .before .before .before .before .before .before .before .args .v) (c .other-half .result)) < k) (c .before .before .before .before .before .before .before .before .before .before .before .before .before .before .before .before .before .pre .0) (subst (λ (l : List ℕ). openValues (take (c .before .before .before .before .before .before .before .before .before .before .before .before .before .before .before .before .before .args .v) l) < openValues (take (c .before .before .before .before .before .before .before .before .before .before .before .before .before .before .before .before .before .args .v) (c .before .before .before .before .before .before .before .before .before .before .before .before .before .before .before .before .before .args .rooms))) (sym (c .other-half .ensures)) (other-less (fieldsIn (c .before .before .before .before .before .before .before .before .before .before .before .before .before .before .before .before .before .args .input .now)) (c .before .before .before .before .before .before .before .before .before .before .before .before .before .before .before .before .before .args .v) (c .before .before .before .before .before .before .before .before .before .before .before .before .before .before .before .before .before .args .rooms) (positions t (c .before .before .before .before .before .before .before .before .before .before .before .before .before .before .before .before .before)) (rooms-long t (c .before .before .before .before .before .before .before .before .before .before .before .before .before .before .before .before .before)) (c .before .before .before .before .before .before .before .before .before .before .before .before .before .before .before .before .before .pre .1 .1) (c .before .before .before .before .before .before .before .before .before .before .before .before .before .before .before .before .before .args .allowed) (c .before .before .before .before .before .before .before .before .before .before .before .before .before .before .before .before .before .args .splits) (c .before .before .before .before .before .before .before .before .before .before .before .before .before .before .before .before .before .args .dead-ends) (c .before .before .before .before .before .before .before .before .before .before .before .before .before .before .before .shrink .result .rooms) (kept t (c .before .before .before .before .before .before .before .before .before .before .before .before)) (c .before .before .before .before .before .before .before .choose .result) (unsettled t (c .before .before .before .before .before)) (index t (c .before .before .before .before .before) .0) (index t (c .before .before .before .before .before) .1))), (c .before .before .before .before .before .before .before .before .before .before .before .before .before .before .before .before .before .pre .1 .0, subst (λ (l : List ℕ). Rooms (take (c .before .before .before .before .before .before .before .before .before .before .before .before .before .before .before .before .before .args .v) l)) (sym (c .other-half .ensures)) (other-rooms (fieldsIn (c .before .before .before .before .before .before .before .before .before .before .before .before .before .before .before .before .before .args .input .now)) (c .before .before .before .before .before .before .before .before .before .before .before .before .before .before .before .before .before .args .v) (c .before .before .before .before .before .before .before .before .before .before .before .before .before .before .before .before .before .args .rooms) (positions t (c .before .before .before .before .before .before .before .before .before .before .before .before .before .before .before .before .before)) (rooms-long t (c .before .before .before .before .before .before .before .before .before .before .before .before .before .before .before .before .before)) (c .before .before .before .before .before .before .before .before .before .before .before .before .before .before .before .before .before .pre .1 .1) (c .before .before .before .before .before .before .before .before .before .before .before .before .before .before .before .before .before .args .allowed) (c .before .before .before .before .before .before .before .before .before .before .before .before .before .before .before .before .before .args .splits) (c .before .before .before .before .before .before .before .before .before .before .before .before .before .before .before .before .before .args .dead-ends) (c .before .before .before .before .before .before .before .before .before .before .before .before .before .before .before .shrink .result .rooms) (kept t (c .before .before .before .before .before .before .before .before .before .before .before .before)) (c .before .before .before .before .before .before .before .choose .result) (unsettled t (c .before .before .before .before .before)) (index t (c .before .before .before .before .before) .0) (index t (c .before .before .before .before .before) .1)), other-counts (fieldsIn (c .before .before .before .before .before .before .before .before .before .before .before .before .before .before .before .before .before .args .input .now)) (c .before .before .before .before .before .before .before .before .before .before .before .before .before .before .before .before .before .args .v) (c .before .before .before .before .before .before .before .before .before .before .before .before .before .before .before .before .before .args .rooms) (positions t (c .before .before .before .before .before .before .before .before .before .before .before .before .before .before .before .before .before)) (rooms-long t (c .before .before .before .before .before .before .before .before .before .before .before .before .before .before .before .before .before)) (c .before .before .before .before .before .before .before .before .before .before .before .before .before .before .before .before .before .pre .1 .1) (c .before .before .before .before .before .before .before .before .before .before .before .before .before .before .before .before .before .args .allowed) (c .before .before .before .before .before .before .before .before .before .before .before .before .before .before .before .before .before .args .splits) (c .before .before .before .before .before .before .before .before .before .before .before .before .before .before .before .before .before .args .dead-ends) (c .before .before .before .before .before .before .before .before .before .before .before .before .before .before .before .shrink .result .rooms) (kept t (c .before .before .before .before .before .before .before .before .before .before .before .before)) (c .before .before .before .before .before .before .before .choose .result) (unsettled t (c .before .before .before .before .before)) (index t (c .before .before .before .before .before) .0) (index t (c .before .before .before .before .before) .1) (c .before .before .before .search .result) (c .before .before .before .before .before .before .before .before .before .before .before .before .before .before .before .before .before .pre .1 .2) (c .before .before .before .before .before .if3 .left) (found-first t (c .before .before .before))))
+search-search-requires-2 t c κs = (subst (λ (k : ℕ). openValues (take (c .before .before .before .before .before .before .before .before .before .before .before .before .before .before .before .before .before .args .v) (c .before .before .before .other-half .result)) < k) (c .before .before .before .before .before .before .before .before .before .before .before .before .before .before .before .before .before .pre .0) (subst (λ (l : List ℕ). openValues (take (c .before .before .before .before .before .before .before .before .before .before .before .before .before .before .before .before .before .args .v) l) < openValues (take (c .before .before .before .before .before .before .before .before .before .before .before .before .before .before .before .before .before .args .v) (c .before .before .before .before .before .before .before .before .before .before .before .before .before .before .before .before .before .args .rooms))) (sym (c .before .before .before .other-half .ensures)) (other-less (fieldsIn (c .before .before .before .before .before .before .before .before .before .before .before .before .before .before .before .before .before .args .input .now)) (c .before .before .before .before .before .before .before .before .before .before .before .before .before .before .before .before .before .args .v) (c .before .before .before .before .before .before .before .before .before .before .before .before .before .before .before .before .before .args .rooms) (positions t (c .before .before .before .before .before .before .before .before .before .before .before .before .before .before .before .before .before)) (rooms-long t (c .before .before .before .before .before .before .before .before .before .before .before .before .before .before .before .before .before)) (c .before .before .before .before .before .before .before .before .before .before .before .before .before .before .before .before .before .pre .1 .1) (c .before .before .before .before .before .before .before .before .before .before .before .before .before .before .before .before .before .args .allowed) (c .before .before .before .before .before .before .before .before .before .before .before .before .before .before .before .before .before .args .splits) (c .before .before .before .before .before .before .before .before .before .before .before .before .before .before .before .before .before .args .dead-ends) (c .before .before .before .before .before .before .before .before .before .before .before .before .before .before .before .shrink .result .rooms) (kept t (c .before .before .before .before .before .before .before .before .before .before .before .before)) (c .before .before .before .before .before .before .before .choose .result) (unsettled t (c .before .before .before .before .before)) (index t (c .before .before .before .before .before) .0) (index t (c .before .before .before .before .before) .1))), (c .before .before .before .before .before .before .before .before .before .before .before .before .before .before .before .before .before .pre .1 .0, subst (λ (l : List ℕ). Rooms (take (c .before .before .before .before .before .before .before .before .before .before .before .before .before .before .before .before .before .args .v) l)) (sym (c .before .before .before .other-half .ensures)) (other-rooms (fieldsIn (c .before .before .before .before .before .before .before .before .before .before .before .before .before .before .before .before .before .args .input .now)) (c .before .before .before .before .before .before .before .before .before .before .before .before .before .before .before .before .before .args .v) (c .before .before .before .before .before .before .before .before .before .before .before .before .before .before .before .before .before .args .rooms) (positions t (c .before .before .before .before .before .before .before .before .before .before .before .before .before .before .before .before .before)) (rooms-long t (c .before .before .before .before .before .before .before .before .before .before .before .before .before .before .before .before .before)) (c .before .before .before .before .before .before .before .before .before .before .before .before .before .before .before .before .before .pre .1 .1) (c .before .before .before .before .before .before .before .before .before .before .before .before .before .before .before .before .before .args .allowed) (c .before .before .before .before .before .before .before .before .before .before .before .before .before .before .before .before .before .args .splits) (c .before .before .before .before .before .before .before .before .before .before .before .before .before .before .before .before .before .args .dead-ends) (c .before .before .before .before .before .before .before .before .before .before .before .before .before .before .before .shrink .result .rooms) (kept t (c .before .before .before .before .before .before .before .before .before .before .before .before)) (c .before .before .before .before .before .before .before .choose .result) (unsettled t (c .before .before .before .before .before)) (index t (c .before .before .before .before .before) .0) (index t (c .before .before .before .before .before) .1)), other-counts (fieldsIn (c .before .before .before .before .before .before .before .before .before .before .before .before .before .before .before .before .before .args .input .now)) (c .before .before .before .before .before .before .before .before .before .before .before .before .before .before .before .before .before .args .v) (c .before .before .before .before .before .before .before .before .before .before .before .before .before .before .before .before .before .args .rooms) (positions t (c .before .before .before .before .before .before .before .before .before .before .before .before .before .before .before .before .before)) (rooms-long t (c .before .before .before .before .before .before .before .before .before .before .before .before .before .before .before .before .before)) (c .before .before .before .before .before .before .before .before .before .before .before .before .before .before .before .before .before .pre .1 .1) (c .before .before .before .before .before .before .before .before .before .before .before .before .before .before .before .before .before .args .allowed) (c .before .before .before .before .before .before .before .before .before .before .before .before .before .before .before .before .before .args .splits) (c .before .before .before .before .before .before .before .before .before .before .before .before .before .before .before .before .before .args .dead-ends) (c .before .before .before .before .before .before .before .before .before .before .before .before .before .before .before .shrink .result .rooms) (kept t (c .before .before .before .before .before .before .before .before .before .before .before .before)) (c .before .before .before .before .before .before .before .choose .result) (unsettled t (c .before .before .before .before .before)) (index t (c .before .before .before .before .before) .0) (index t (c .before .before .before .before .before) .1) (c .before .before .search .result) (c .before .before .before .before .before .before .before .before .before .before .before .before .before .before .before .before .before .pre .1 .2) (c .before .before .before .before .before .if3 .left) (found-first t (c .before .before))))
 
 search-enum-told-4 : (t : ℕ) → search-lts.Need-enum-told-4 (claims t) (search-at t) search′.Post
 search-enum-told-4 t c = search needs
@@ -144,17 +144,17 @@ search-enum-told-6 t c = search needs
 search-returns-5 : (t : ℕ) → search-lts.Need-returns-5 (claims t) (search-at t) search′.Post
 search-returns-5 t c =
     let a = c .before .before .before .before .before .before .before .before .before .before .before .before .before .before .before .before .before .before .args in
-    ends-second (fieldsIn (c .before .before .before .before .before .before .before .before .before .before .before .before .before .before .before .before .before .before .args .input .now)) (c .before .before .before .before .before .before .before .before .before .before .before .before .before .before .before .before .before .before .args .v) (c .before .before .before .before .before .before .before .before .before .before .before .before .before .before .before .before .before .before .args .rooms) (positions t (c .before .before .before .before .before .before .before .before .before .before .before .before .before .before .before .before .before .before)) (rooms-long t (c .before .before .before .before .before .before .before .before .before .before .before .before .before .before .before .before .before .before)) (c .before .before .before .before .before .before .before .before .before .before .before .before .before .before .before .before .before .before .pre .1 .1) (c .before .before .before .before .before .before .before .before .before .before .before .before .before .before .before .before .before .before .args .allowed) (c .before .before .before .before .before .before .before .before .before .before .before .before .before .before .before .before .before .before .args .splits) (c .before .before .before .before .before .before .before .before .before .before .before .before .before .before .before .before .before .before .args .dead-ends) (c .before .before .before .before .before .before .before .before .before .before .before .before .before .before .before .before .shrink .result .rooms) (kept t (c .before .before .before .before .before .before .before .before .before .before .before .before .before)) (c .before .before .before .before .before .before .before .before .choose .result) (unsettled t (c .before .before .before .before .before .before)) (index t (c .before .before .before .before .before .before) .0) (index t (c .before .before .before .before .before .before) .1) (c .before .before .before .before .search .result) (c .search2 .result) (found-first t (c .before .before .before .before)) (c .before .before .before .before .before .before .if3 .left) (c .before .before .enum-told3 .given .1)
-    (c .search2 .ensures ∙ ap (λ (half : List ℕ). foundOf (searchOf (suc (openValues (take (a .v) half))) (fieldsIn (a .input .now)) (a .allowed) (take (a .v) half) (c .before .before .before .before .search .result .splits) (c .before .before .before .before .search .result .«dead_ends»))) (c .before .other-half .ensures))
+    ends-second (fieldsIn (c .before .before .before .before .before .before .before .before .before .before .before .before .before .before .before .before .before .before .args .input .now)) (c .before .before .before .before .before .before .before .before .before .before .before .before .before .before .before .before .before .before .args .v) (c .before .before .before .before .before .before .before .before .before .before .before .before .before .before .before .before .before .before .args .rooms) (positions t (c .before .before .before .before .before .before .before .before .before .before .before .before .before .before .before .before .before .before)) (rooms-long t (c .before .before .before .before .before .before .before .before .before .before .before .before .before .before .before .before .before .before)) (c .before .before .before .before .before .before .before .before .before .before .before .before .before .before .before .before .before .before .pre .1 .1) (c .before .before .before .before .before .before .before .before .before .before .before .before .before .before .before .before .before .before .args .allowed) (c .before .before .before .before .before .before .before .before .before .before .before .before .before .before .before .before .before .before .args .splits) (c .before .before .before .before .before .before .before .before .before .before .before .before .before .before .before .before .before .before .args .dead-ends) (c .before .before .before .before .before .before .before .before .before .before .before .before .before .before .before .before .shrink .result .rooms) (kept t (c .before .before .before .before .before .before .before .before .before .before .before .before .before)) (c .before .before .before .before .before .before .before .before .choose .result) (unsettled t (c .before .before .before .before .before .before)) (index t (c .before .before .before .before .before .before) .0) (index t (c .before .before .before .before .before .before) .1) (c .before .before .before .search .result) (c .search2 .result) (found-first t (c .before .before .before)) (c .before .before .before .before .before .before .if3 .left) (c .before .enum-told3 .given .1)
+    (c .search2 .ensures ∙ ap (λ (half : List ℕ). foundOf (searchOf (suc (openValues (take (a .v) half))) (fieldsIn (a .input .now)) (a .allowed) (take (a .v) half) (c .before .before .before .search .result .splits) (c .before .before .before .search .result .«dead_ends»))) (c .before .before .before .before .other-half .ensures))
 
 search-returns-6 : (t : ℕ) → search-lts.Need-returns-6 (claims t) (search-at t) search′.Post
-search-returns-6 t c = ends-first (fieldsIn (c .before .before .before .before .before .before .before .before .before .before .before .before .before .before .before .before .args .input .now)) (c .before .before .before .before .before .before .before .before .before .before .before .before .before .before .before .before .args .v) (c .before .before .before .before .before .before .before .before .before .before .before .before .before .before .before .before .args .rooms) (positions t (c .before .before .before .before .before .before .before .before .before .before .before .before .before .before .before .before)) (rooms-long t (c .before .before .before .before .before .before .before .before .before .before .before .before .before .before .before .before)) (c .before .before .before .before .before .before .before .before .before .before .before .before .before .before .before .before .pre .1 .1) (c .before .before .before .before .before .before .before .before .before .before .before .before .before .before .before .before .args .allowed) (c .before .before .before .before .before .before .before .before .before .before .before .before .before .before .before .before .args .splits) (c .before .before .before .before .before .before .before .before .before .before .before .before .before .before .before .before .args .dead-ends) (c .before .before .before .before .before .before .before .before .before .before .before .before .before .before .shrink .result .rooms) (kept t (c .before .before .before .before .before .before .before .before .before .before .before)) (c .before .before .before .before .before .before .choose .result) (unsettled t (c .before .before .before .before)) (index t (c .before .before .before .before) .0) (index t (c .before .before .before .before) .1) (c .before .before .search .result) (found-first t (c .before .before)) (c .before .before .before .before .if3 .left) (λ e. let told = c .enum-told4 .given .1 in let z : _≡_ {A = ℕ} 0 1 = cc in omega arith)
+search-returns-6 t c = ends-first (fieldsIn (c .before .before .before .before .before .before .before .before .before .before .before .before .before .before .before .before .before .args .input .now)) (c .before .before .before .before .before .before .before .before .before .before .before .before .before .before .before .before .before .args .v) (c .before .before .before .before .before .before .before .before .before .before .before .before .before .before .before .before .before .args .rooms) (positions t (c .before .before .before .before .before .before .before .before .before .before .before .before .before .before .before .before .before)) (rooms-long t (c .before .before .before .before .before .before .before .before .before .before .before .before .before .before .before .before .before)) (c .before .before .before .before .before .before .before .before .before .before .before .before .before .before .before .before .before .pre .1 .1) (c .before .before .before .before .before .before .before .before .before .before .before .before .before .before .before .before .before .args .allowed) (c .before .before .before .before .before .before .before .before .before .before .before .before .before .before .before .before .before .args .splits) (c .before .before .before .before .before .before .before .before .before .before .before .before .before .before .before .before .before .args .dead-ends) (c .before .before .before .before .before .before .before .before .before .before .before .before .before .before .before .shrink .result .rooms) (kept t (c .before .before .before .before .before .before .before .before .before .before .before .before)) (c .before .before .before .before .before .before .before .choose .result) (unsettled t (c .before .before .before .before .before)) (index t (c .before .before .before .before .before) .0) (index t (c .before .before .before .before .before) .1) (c .before .before .search .result) (found-first t (c .before .before)) (c .before .before .before .before .before .if3 .left) (λ e. let told = c .enum-told4 .given .1 in let z : _≡_ {A = ℕ} 0 1 = cc in omega arith)
 
 search-returns-7 : (t : ℕ) → search-lts.Need-returns-7 (claims t) (search-at t) search′.Post
-search-returns-7 t c = ends-first (fieldsIn (c .before .before .before .before .before .before .before .before .before .before .before .before .before .before .before .before .args .input .now)) (c .before .before .before .before .before .before .before .before .before .before .before .before .before .before .before .before .args .v) (c .before .before .before .before .before .before .before .before .before .before .before .before .before .before .before .before .args .rooms) (positions t (c .before .before .before .before .before .before .before .before .before .before .before .before .before .before .before .before)) (rooms-long t (c .before .before .before .before .before .before .before .before .before .before .before .before .before .before .before .before)) (c .before .before .before .before .before .before .before .before .before .before .before .before .before .before .before .before .pre .1 .1) (c .before .before .before .before .before .before .before .before .before .before .before .before .before .before .before .before .args .allowed) (c .before .before .before .before .before .before .before .before .before .before .before .before .before .before .before .before .args .splits) (c .before .before .before .before .before .before .before .before .before .before .before .before .before .before .before .before .args .dead-ends) (c .before .before .before .before .before .before .before .before .before .before .before .before .before .before .shrink .result .rooms) (kept t (c .before .before .before .before .before .before .before .before .before .before .before)) (c .before .before .before .before .before .before .choose .result) (unsettled t (c .before .before .before .before)) (index t (c .before .before .before .before) .0) (index t (c .before .before .before .before) .1) (c .before .before .search .result) (found-first t (c .before .before)) (c .before .before .before .before .if3 .left) (λ e. let told = c .enum-told5 .given .1 in let z : _≡_ {A = ℕ} 0 1 = cc in omega arith)
+search-returns-7 t c = ends-first (fieldsIn (c .before .before .before .before .before .before .before .before .before .before .before .before .before .before .before .before .before .args .input .now)) (c .before .before .before .before .before .before .before .before .before .before .before .before .before .before .before .before .before .args .v) (c .before .before .before .before .before .before .before .before .before .before .before .before .before .before .before .before .before .args .rooms) (positions t (c .before .before .before .before .before .before .before .before .before .before .before .before .before .before .before .before .before)) (rooms-long t (c .before .before .before .before .before .before .before .before .before .before .before .before .before .before .before .before .before)) (c .before .before .before .before .before .before .before .before .before .before .before .before .before .before .before .before .before .pre .1 .1) (c .before .before .before .before .before .before .before .before .before .before .before .before .before .before .before .before .before .args .allowed) (c .before .before .before .before .before .before .before .before .before .before .before .before .before .before .before .before .before .args .splits) (c .before .before .before .before .before .before .before .before .before .before .before .before .before .before .before .before .before .args .dead-ends) (c .before .before .before .before .before .before .before .before .before .before .before .before .before .before .before .shrink .result .rooms) (kept t (c .before .before .before .before .before .before .before .before .before .before .before .before)) (c .before .before .before .before .before .before .before .choose .result) (unsettled t (c .before .before .before .before .before)) (index t (c .before .before .before .before .before) .0) (index t (c .before .before .before .before .before) .1) (c .before .before .search .result) (found-first t (c .before .before)) (c .before .before .before .before .before .if3 .left) (λ e. let told = c .enum-told5 .given .1 in let z : _≡_ {A = ℕ} 0 1 = cc in omega arith)
 
 search-returns-8 : (t : ℕ) → search-lts.Need-returns-8 (claims t) (search-at t) search′.Post
-search-returns-8 t c = ends-first (fieldsIn (c .before .before .before .before .before .before .before .before .before .before .before .before .before .before .before .before .args .input .now)) (c .before .before .before .before .before .before .before .before .before .before .before .before .before .before .before .before .args .v) (c .before .before .before .before .before .before .before .before .before .before .before .before .before .before .before .before .args .rooms) (positions t (c .before .before .before .before .before .before .before .before .before .before .before .before .before .before .before .before)) (rooms-long t (c .before .before .before .before .before .before .before .before .before .before .before .before .before .before .before .before)) (c .before .before .before .before .before .before .before .before .before .before .before .before .before .before .before .before .pre .1 .1) (c .before .before .before .before .before .before .before .before .before .before .before .before .before .before .before .before .args .allowed) (c .before .before .before .before .before .before .before .before .before .before .before .before .before .before .before .before .args .splits) (c .before .before .before .before .before .before .before .before .before .before .before .before .before .before .before .before .args .dead-ends) (c .before .before .before .before .before .before .before .before .before .before .before .before .before .before .shrink .result .rooms) (kept t (c .before .before .before .before .before .before .before .before .before .before .before)) (c .before .before .before .before .before .before .choose .result) (unsettled t (c .before .before .before .before)) (index t (c .before .before .before .before) .0) (index t (c .before .before .before .before) .1) (c .before .before .search .result) (found-first t (c .before .before)) (c .before .before .before .before .if3 .left) (λ e. let told = c .enum-told6 .given .1 in let z : _≡_ {A = ℕ} 0 1 = cc in omega arith)
+search-returns-8 t c = ends-first (fieldsIn (c .before .before .before .before .before .before .before .before .before .before .before .before .before .before .before .before .before .args .input .now)) (c .before .before .before .before .before .before .before .before .before .before .before .before .before .before .before .before .before .args .v) (c .before .before .before .before .before .before .before .before .before .before .before .before .before .before .before .before .before .args .rooms) (positions t (c .before .before .before .before .before .before .before .before .before .before .before .before .before .before .before .before .before)) (rooms-long t (c .before .before .before .before .before .before .before .before .before .before .before .before .before .before .before .before .before)) (c .before .before .before .before .before .before .before .before .before .before .before .before .before .before .before .before .before .pre .1 .1) (c .before .before .before .before .before .before .before .before .before .before .before .before .before .before .before .before .before .args .allowed) (c .before .before .before .before .before .before .before .before .before .before .before .before .before .before .before .before .before .args .splits) (c .before .before .before .before .before .before .before .before .before .before .before .before .before .before .before .before .before .args .dead-ends) (c .before .before .before .before .before .before .before .before .before .before .before .before .before .before .before .shrink .result .rooms) (kept t (c .before .before .before .before .before .before .before .before .before .before .before .before)) (c .before .before .before .before .before .before .before .choose .result) (unsettled t (c .before .before .before .before .before)) (index t (c .before .before .before .before .before) .0) (index t (c .before .before .before .before .before) .1) (c .before .before .search .result) (found-first t (c .before .before)) (c .before .before .before .before .before .if3 .left) (λ e. let told = c .enum-told6 .given .1 in let z : _≡_ {A = ℕ} 0 1 = cc in omega arith)
 
 pub +search-spec : {M : Type 1} → statement M
 +search-spec = close μ-search λ t. search-lts.spec (claims t)
@@ -175,10 +175,10 @@ pub +search-spec : {M : Type 1} → statement M
     (search-without-plan-requires-3 t)
     (search-returns-4 t)
     (search-first-half-requires t)
+    (search-other-half-requires t)
     (search-add-search t)
     (search-search-requires t)
     (search-enum-told-3 t)
-    (search-other-half-requires t)
     (search-search-requires-2 t)
     (search-enum-told-4 t)
     (search-enum-told-5 t)

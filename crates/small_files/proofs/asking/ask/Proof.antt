@@ -1,0 +1,48 @@
+-- `small_files::asking::ask` is safe and meets its contract. The part of the array that is lent has the length that is asked for. Assumes nothing.
+use native.Mathlib.Omega.{arith}
+use mathlib.Core.Path.{sym}
+use lib.Seq.{length-take-le}
+use borrow.Author.Needs.{needs}
+use Rattle.small_files.proofs.asking.ask.Statement.{statement}
+use Rattle.small_files.proofs.asking.ask.Tie as tie
+
+array-borrow-prefix-bytes : tie.Need-array-borrow-prefix-bytes
+array-borrow-prefix-bytes c = search needs
+
+slice-aggregate-plan : tie.Need-slice-aggregate-plan
+slice-aggregate-plan c = sym (length-take-le _ _ (omega arith))
+
+plan-requires : tie.Need-plan-requires
+plan-requires c κs = search needs
+
+seen-as-requires : tie.Need-seen-as-requires
+seen-as-requires c κs = search needs
+
+add-requires : tie.Need-add-requires
+add-requires c κs = search needs
+
+add-requires-2 : tie.Need-add-requires-2
+add-requires-2 c κs = search needs
+
+add-requires-3 : tie.Need-add-requires-3
+add-requires-3 c κs = search needs
+
+add-requires-4 : tie.Need-add-requires-4
+add-requires-4 c κs = search needs
+
+returns : tie.Need-returns
+returns c = search needs
+
+pub ask-spec : {M : Type 1} → statement M
+ask-spec =
+    tie.close
+    (tie.spec
+    array-borrow-prefix-bytes
+    slice-aggregate-plan
+    plan-requires
+    seen-as-requires
+    add-requires
+    add-requires-2
+    add-requires-3
+    add-requires-4
+    returns)

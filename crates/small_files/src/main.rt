@@ -1,0 +1,29 @@
+// Tries the planner on many small rule files, systematic and pseudo-random, sound and damaged. Every
+// plan, and that there is none, is compared with an enumeration of all assignments. It prints how
+// many files there were, how many replies of each kind, the sums of what the replies say, and how
+// many differences there were; the bytes of the first file with a difference come before that.
+//
+// The enumeration, and the test whether a file is sound, are written from 01 alone and share nothing
+// with the planner but the bytes. The file `stdout` beside src/ has the lines that are right. It was
+// made by other means, by a model that was written from 01 too: it makes the same files, and for
+// each the refusal, or the splits and the dead ends of the search, from sets of values.
+mod asking;
+mod buffer;
+mod chance;
+mod compare;
+mod damage;
+mod drawn;
+mod limits;
+mod meaning;
+mod reading;
+mod systematic;
+mod tally;
+mod trying;
+mod writing;
+
+fn main() {
+    let mut tally = [0u64; 32];
+    trying::all(&mut tally);
+    limits::all(&mut tally);
+    tally::print(&tally);
+}

@@ -1,0 +1,151 @@
+// The first assignment that meets all rules of a sound file, found by going through all assignments
+// in dictionary order. Written from 01's section "What rules mean" alone; nothing of the planner is
+// used.
+ghost use Prim.Native.Nat.{_≤_, _<_};
+use super::buffer::ones;
+use super::buffer::wide;
+use super::reading::byte;
+use super::reading::contains;
+use super::reading::next_field;
+
+// The value of a position, and 0 where there is no such position.
+fn value_of(assignment: &[u8; 68], position: usize) -> usize {
+    if position < 1 {
+        return 0;
+    }
+    if 64 < position {
+        return 0;
+    }
+    wide(assignment[position - 1])
+}
+
+// Whether some atom's position has its value in the atom's set.
+fn clause_met(content: &[u8], assignment: &[u8; 68]) -> bool {
+    let mut i = 0;
+    while i < content.len() / 5 {
+        let at = i * 5;
+        let value = value_of(assignment, byte(content, at));
+        if contains(&content[at + 1..], value) {
+            return true;
+        }
+        i += 1;
+    }
+    false
+}
+
+// Whether one of the named positions of an equality takes a value.
+fn taken(content: &[u8], assignment: &[u8; 68], value: usize) -> bool {
+    let mut i = 4;
+    while i < content.len() {
+        if value_of(assignment, byte(content, i)) == value {
+            return true;
+        }
+        i += 1;
+    }
+    false
+}
+
+// Whether the set of the values that the named positions take is exactly the equality's set: each
+// value from 1 to n is in both or in none.
+fn equality_met(content: &[u8], assignment: &[u8; 68], n: usize) -> bool {
+    let mut value = 0;
+    while value < n {
+        value += 1;
+        if contains(content, value) != taken(content, assignment, value) {
+            return false;
+        }
+    }
+    true
+}
+
+// Whether an assignment meets the rule of one field.
+fn field_met(field: &[u8], assignment: &[u8; 68], n: usize) -> bool {
+    if field.len() < 3 {
+        return false;
+    }
+    let content = &field[3..];
+    if byte(field, 0) == 2 {
+        clause_met(content, assignment)
+    } else {
+        equality_met(content, assignment, n)
+    }
+}
+
+// Whether an assignment meets every field behind the header.
+pub fn meets(file: &[u8], assignment: &[u8; 68], n: usize) -> bool {
+    let mut at = 5;
+    while at < file.len() {
+        let next = next_field(file, at);
+        if !field_met(&file[at..next], assignment, n) {
+            return false;
+        }
+        at = next;
+    }
+    true
+}
+
+// Goes on to the next assignment in dictionary order, as a counter does: the last position is the
+// fastest. From the last assignment it goes to the first one, and answers false.
+fn advance(assignment: &mut [u8; 68], v: usize, n: usize) -> bool
+    requires { ⌜ v ≤ 64 ⌝ }
+{
+    let mut i = v;
+    while i > 0 {
+        i -= 1;
+        let value = wide(assignment[i]);
+        if value < n {
+            assignment[i] = ((value + 1) % 256) as u8;
+            return true;
+        }
+        assignment[i] = 1;
+    }
+    false
+}
+
+// The number of assignments, found by counting them, and 4,097 where there are more than 4,096.
+pub fn assignments(v: usize, n: usize) -> u64
+    requires { ⌜ v ≤ 64 ⌝ }
+{
+    let mut assignment = ones(v);
+    let mut count = 1;
+    while count <= 4096 {
+        if !advance(&mut assignment, v, n) {
+            return count;
+        }
+        count += 1;
+    }
+    count
+}
+
+// What the enumeration finds: whether some assignment meets all rules, and the first one that does.
+pub struct Found {
+    pub any: bool,
+    pub assignment: [u8; 68],
+}
+
+// The first of the first 4,096 assignments that meets every field.
+pub fn first(file: &[u8], v: usize, n: usize) -> Found
+    requires { ⌜ v ≤ 64 ⌝ }
+{
+    let mut assignment = ones(v);
+    let mut left: usize = 4096;
+    while left > 0 {
+        left -= 1;
+        if meets(file, &assignment, n) {
+            return Found {
+                any: true,
+                assignment,
+            };
+        }
+        if !advance(&mut assignment, v, n) {
+            return Found {
+                any: false,
+                assignment,
+            };
+        }
+    }
+    Found {
+        any: false,
+        assignment,
+    }
+}

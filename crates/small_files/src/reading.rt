@@ -1,0 +1,148 @@
+// A little reader of rule files, and a test whether a file is sound, written from 01's section "The
+// rule file".
+ghost use Prim.Native.Nat.{_≤_, _<_};
+ghost use lib.ListN.{length};
+use super::buffer::wide;
+
+// The byte at an index as a number, and 0 behind the end.
+pub fn byte(bytes: &[u8], i: usize) -> usize
+    ensures { λ r. ⌜ r < 256 ⌝ }
+{
+    if i < bytes.len() { wide(bytes[i]) } else { 0 }
+}
+
+// The number of positions that a header names, but never more than 64.
+pub fn positions(file: &[u8]) -> usize
+    ensures { λ r. ⌜ r ≤ 64 ⌝ }
+{
+    let v = byte(file, 3);
+    if 64 < v { 64 } else { v }
+}
+
+// The number of values that a header names.
+pub fn values(file: &[u8]) -> usize {
+    byte(file, 4)
+}
+
+// The length that a field's head names.
+fn length_of(field: &[u8]) -> usize
+    ensures { λ r. ⌜ r < 65536 ⌝ }
+{
+    byte(field, 1) * 256 + byte(field, 2)
+}
+
+// Where the field behind the one at a place starts; the end of the file where that one is cut.
+pub fn next_field(file: &[u8], at: usize) -> usize
+    requires { ⌜ at < length (now file) ⌝ }
+    ensures { λ r. ⌜ (at < r) × (r ≤ length (now (file .entry))) ⌝ }
+{
+    let size = length_of(&file[at..]) + 3;
+    if file.len() - at < size {
+        return file.len();
+    }
+    at + size
+}
+
+// Whether a value is in the set whose four bytes stand at the front.
+pub fn contains(set: &[u8], value: usize) -> bool {
+    if value < 1 {
+        return false;
+    }
+    if 32 < value {
+        return false;
+    }
+    let bit = value - 1;
+    let eight = byte(set, 3 - bit / 8);
+    (eight >> (bit % 8)) % 2 == 1
+}
+
+// Whether the set has no value above n.
+fn set_fits(set: &[u8], n: usize) -> bool {
+    let mut value = 32;
+    while n < value {
+        if contains(set, value) {
+            return false;
+        }
+        value -= 1;
+    }
+    true
+}
+
+// Whether a position is 1 to v.
+fn position_fits(position: usize, v: usize) -> bool {
+    1 <= position && position <= v
+}
+
+// Whether every atom of a clause has a position up to v and values up to n.
+fn atoms_fit(content: &[u8], v: usize, n: usize) -> bool {
+    let mut i = 0;
+    while i < content.len() / 5 {
+        let at = i * 5;
+        if !position_fits(byte(content, at), v) || !set_fits(&content[at + 1..], n) {
+            return false;
+        }
+        i += 1;
+    }
+    true
+}
+
+// Whether every byte is a position up to v.
+fn positions_fit(bytes: &[u8], v: usize) -> bool {
+    let mut i = 0;
+    while i < bytes.len() {
+        if !position_fits(byte(bytes, i), v) {
+            return false;
+        }
+        i += 1;
+    }
+    true
+}
+
+// Whether the content of an equality is sound: a set and up to 64 positions.
+fn equality_sound(content: &[u8], v: usize, n: usize) -> bool {
+    if content.len() < 4 {
+        return false;
+    }
+    content.len() <= 68 && set_fits(content, n) && positions_fit(&content[4..], v)
+}
+
+// Whether the bytes start with a whole clause or equality that is sound.
+fn field_sound(rest: &[u8], v: usize, n: usize) -> bool {
+    let length = length_of(rest);
+    if rest.len() < 3 {
+        return false;
+    }
+    let end = length + 3;
+    if rest.len() < end {
+        return false;
+    }
+    let content = &rest[3..end];
+    match byte(rest, 0) {
+        2 => length % 5 == 0 && atoms_fit(content, v, n),
+        3 => equality_sound(content, v, n),
+        _ => false,
+    }
+}
+
+// Whether the fields behind the header are sound.
+fn fields_sound(file: &[u8], v: usize, n: usize) -> bool {
+    let mut at = 5;
+    while at < file.len() {
+        if !field_sound(&file[at..], v, n) {
+            return false;
+        }
+        at = next_field(file, at);
+    }
+    true
+}
+
+// Whether a file is sound: a header of 1 to 64 positions and 1 to 32 values, and behind it only
+// clauses and equalities, all of them whole, with positions up to v and values up to n.
+pub fn sound(file: &[u8]) -> bool {
+    if file.len() < 5 || byte(file, 0) != 1 || byte(file, 1) != 0 || byte(file, 2) != 2 {
+        return false;
+    }
+    let v = byte(file, 3);
+    let n = byte(file, 4);
+    position_fits(v, 64) && position_fits(n, 32) && fields_sound(file, v, n)
+}

@@ -1,0 +1,68 @@
+// Writing rule files, byte by byte from 01's section "The rule file".
+//
+// A file stands at the front of some bytes. Each function writes at a place and answers the place
+// behind what it wrote, which is never behind the last byte. What does not fit is left out: such a
+// file is not sound any more, and is then reported as a difference.
+ghost use Prim.Native.Nat.{_≤_};
+ghost use lib.ListN.{length};
+
+// Writes a byte.
+pub fn put(file: &mut [u8], at: usize, byte: usize) -> usize
+    ensures { λ r. ⌜ r ≤ length (now (file .entry)) ⌝ }
+{
+    if at < file.len() {
+        file[at] = (byte % 256) as u8;
+        return at + 1;
+    }
+    file.len()
+}
+
+// Writes a header at the front.
+pub fn header(file: &mut [u8], v: usize, n: usize) -> usize
+    ensures { λ r. ⌜ r ≤ length (now (file .entry)) ⌝ }
+{
+    let at = put(file, 0, 1);
+    let at = put(file, at, 0);
+    let at = put(file, at, 2);
+    let at = put(file, at, v);
+    put(file, at, n)
+}
+
+// Writes a field's tag, and leaves two bytes for its length.
+pub fn open(file: &mut [u8], at: usize, tag: usize) -> usize
+    ensures { λ r. ⌜ r ≤ length (now (file .entry)) ⌝ }
+{
+    let at = put(file, at, tag);
+    let at = put(file, at, 0);
+    put(file, at, 0)
+}
+
+// Writes the length of the field between two places into its head.
+pub fn close(file: &mut [u8], from: usize, to: usize) {
+    if to < 3 {
+        return;
+    }
+    if from <= to - 3 {
+        let length = to - 3 - from;
+        put(file, from + 1, length / 256);
+        put(file, from + 2, length);
+    }
+}
+
+// Writes a set as four bytes, high byte first.
+pub fn set(file: &mut [u8], at: usize, set: usize) -> usize
+    ensures { λ r. ⌜ r ≤ length (now (file .entry)) ⌝ }
+{
+    let at = put(file, at, set / 16777216);
+    let at = put(file, at, set / 65536);
+    let at = put(file, at, set / 256);
+    put(file, at, set)
+}
+
+// Writes an atom.
+pub fn atom(file: &mut [u8], at: usize, position: usize, values: usize) -> usize
+    ensures { λ r. ⌜ r ≤ length (now (file .entry)) ⌝ }
+{
+    let at = put(file, at, position);
+    set(file, at, values)
+}

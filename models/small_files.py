@@ -1,0 +1,245 @@
+# Makes the expected output of `small_files` from 01's text alone: the same files by the same generator, and a
+# model of the refusals, of the meaning and of the search on Python's sets of values.
+import sys
+from itertools import product
+
+P = 2147483647
+SIZES = [5329, 4641, 3136, 4380, 8000, 5456, 6000, 3000, 3000, 1000]
+if len(sys.argv) > 1: SIZES = [int(x) for x in sys.argv[1].split(',')]
+STATS = len(sys.argv) > 2
+
+class Source:
+    def __init__(self, seed): self.state = seed
+    def draw(self, below):
+        self.state = self.state * 48271 % P
+        return self.state % below
+
+# ---- writing files
+def field(tag, content): return bytes([tag]) + len(content).to_bytes(2, 'big') + bytes(content)
+def atom(p, mask): return bytes([p]) + mask.to_bytes(4, 'big')
+def header(v, n): return bytes([1, 0, 2, v, n])
+
+def digits(number, bases):
+    out = []
+    for b in bases:
+        out.append(number % b); number //= b
+    return out + [number]
+
+def clause_no(number, v, sets):
+    content = b''
+    while number > 0:
+        number -= 1
+        p, number = number % v + 1, number // v
+        s, number = number % sets, number // sets
+        content += atom(p, s)
+    return field(2, content)
+
+def equality_no(mask, number, v):
+    content = mask.to_bytes(4, 'big')
+    while number > 0:
+        number -= 1
+        content += bytes([number % v + 1]); number //= v
+    return field(3, content)
+
+def systematic(family, k):
+    if family == 0:
+        a, b = digits(k, [73]); return header(2, 2) + clause_no(a, 2, 4) + clause_no(b, 2, 4)
+    if family == 1:
+        a, b = digits(k, [273]); return header(2, 3) + clause_no(a, 2, 8) + clause_no(b, 2, 8)
+    if family == 2:
+        s, t, l, m = digits(k, [8, 8, 7]); return header(2, 3) + equality_no(s, l, 2) + equality_no(t, m, 2)
+    if family == 3:
+        a, s, l = digits(k, [73, 4]); return header(2, 2) + clause_no(a, 2, 4) + equality_no(s, l, 2)
+    if family == 4:
+        s, l, a = digits(k, [8, 40]); return header(3, 3) + equality_no(s, l, 3) + clause_no(a, 3, 8)
+    if family == 5:
+        s, l = digits(k, [16]); return header(4, 4) + equality_no(s, l, 4)
+
+def drawn_set(src, n, density):
+    mask = 0
+    for _ in range(n): mask = mask * 2 + (1 if src.draw(4) < density else 0)
+    return mask
+
+def drawn_field(src, v, n, equalities, atoms, density):
+    if src.draw(8) < equalities:
+        mask = drawn_set(src, n, density)
+        count = src.draw(v + 1)
+        return field(3, mask.to_bytes(4, 'big') + bytes([src.draw(v) + 1 for _ in range(count)]))
+    content = b''
+    for _ in range(0 if src.draw(100) == 0 else atoms + src.draw(3)):
+        p = src.draw(v) + 1
+        content += atom(p, drawn_set(src, n, density))
+    return field(2, content)
+
+WIDE = [(12, 2, 8), (9, 2, 8), (7, 3, 8), (6, 4, 8), (5, 5, 8), (4, 8, 8), (3, 16, 8), (2, 32, 8), (1, 32, 8), (64, 1, 3)]
+def drawn(family, src):
+    if family == 6:
+        v = src.draw(4) + 1; n = src.draw(4) + 1; density = src.draw(3) + 1; fields, equalities, atoms = 8, 1, 1
+    elif family == 7:
+        v = src.draw(2) + 3; n = src.draw(3) + 2; fields, equalities, atoms, density = 10, 0, 2, 2
+    elif family == 8:
+        v = src.draw(3) + 2; n = src.draw(3) + 2; fields, equalities, atoms, density = 3, 8, 1, 3
+    else:
+        row = src.draw(10); density = src.draw(2) + 2; v, n, fields = WIDE[row]; equalities, atoms = 2, 2
+    out = header(v, n)
+    for _ in range(src.draw(fields + 1)): out += drawn_field(src, v, n, equalities, atoms, density)
+    return out
+
+# ---- 01, "The rule file" and "Replies": the refusal of a file, or its rules
+def members(b): 
+    m = int.from_bytes(b, 'big'); return frozenset(i + 1 for i in range(32) if m >> i & 1)
+
+def read(file):
+    if not file: return ('refused', 14, 0)
+    at = 0; v = n = None; rules = []
+    while at < len(file):
+        rest = file[at:]
+        if len(rest) < 3: return ('refused', 13, at)
+        tag = rest[0]
+        if at == 0 and tag != 1: return ('refused', 14, 0)
+        if at > 0 and tag == 1: return ('refused', 15, at)
+        if tag not in (1, 2, 3): return ('refused', 16, at)
+        length = rest[1] * 256 + rest[2]
+        if tag == 1 and length != 2 or tag == 2 and length % 5 or tag == 3 and not 4 <= length <= 68: return ('refused', 17, at)
+        if len(rest) - 3 < length: return ('refused', 13, at)
+        c = rest[3:3 + length]
+        if tag == 1:
+            v, n = c
+            if not 1 <= v <= 64 or not 1 <= n <= 32: return ('refused', 18, at)
+        elif tag == 2:
+            atoms = []
+            for i in range(0, length, 5):
+                p, s = c[i], members(c[i + 1:i + 5])
+                if not 1 <= p <= v: return ('refused', 19, at)
+                if s and max(s) > n: return ('refused', 20, at)
+                atoms.append((p, s))
+            rules.append(('clause', atoms))
+        else:
+            s = members(c[:4])
+            if s and max(s) > n: return ('refused', 20, at)
+            for p in c[4:]:
+                if not 1 <= p <= v: return ('refused', 19, at)
+            rules.append(('equality', s, list(c[4:])))
+        at += 3 + length
+    return ('sound', v, n, rules)
+
+# ---- 01, "What rules mean"
+def met(rule, a):
+    if rule[0] == 'clause': return any(a[p - 1] in s for p, s in rule[1])
+    return {a[p - 1] for p in rule[2]} == rule[1]
+
+def first(v, n, rules):
+    for a in product(range(1, n + 1), repeat=v):
+        if all(met(r, a) for r in rules): return a
+    return None
+
+# ---- 01, "The search, step for step"
+def clauses(rules):
+    out = []
+    for r in rules:
+        if r[0] == 'clause': cs = [r[1]]
+        else: cs = [[(p, r[1])] for p in r[2]] + [[(p, frozenset([m])) for p in r[2]] for m in sorted(r[1])]
+        for c in cs:
+            union = {}
+            for p, s in c: union[p] = union.get(p, frozenset()) | s
+            out.append(union)
+    return out
+
+class Stop(Exception): pass
+class Search:
+    def __init__(self, v, n, rules, allowed):
+        self.v, self.cs, self.allowed, self.splits, self.dead = v, clauses(rules), allowed, 0, 0
+        try:
+            plan = self.box([frozenset(range(1, n + 1))] * v)
+            self.number, self.plan = (0, plan) if plan else (1, None)
+        except Stop as s: self.number, self.plan = s.args[0], None
+    def box(self, rooms):
+        rooms = list(rooms)
+        change = True
+        while change:
+            change = False
+            for u in self.cs:
+                live = [p for p in u if rooms[p - 1] & u[p]]
+                if not live: self.dead += 1; return None
+                if len(live) == 1 and not rooms[live[0] - 1] <= u[live[0]]:
+                    rooms[live[0] - 1] &= u[live[0]]; change = True
+        if all(any(rooms[p - 1] <= u[p] for p in u) for u in self.cs): return tuple(min(r) for r in rooms)
+        i = next((i for i, r in enumerate(rooms) if len(r) >= 2), None)
+        if i is None: raise Stop(21)
+        if self.splits >= self.allowed: raise Stop(2)
+        self.splits += 1
+        low = min(rooms[i])
+        return self.box(rooms[:i] + [frozenset([low])] + rooms[i + 1:]) or self.box(rooms[:i] + [rooms[i] - {low}] + rooms[i + 1:])
+
+# ---- the program's counts
+T = dict.fromkeys([0, 1, 2] + list(range(10, 22)) + ['files', 'damaged', 'splits', 'dead', 'places', 'comparisons'], 0)
+hist = {}
+
+def reply(number, place=0, splits=0, dead=0):
+    T[number] += 1; T['splits'] += splits; T['dead'] += dead; T['places'] += place; T['comparisons'] += 1
+
+def ask(v, n, rules, allowance):
+    s = Search(v, n, rules, allowance)
+    reply(s.number, 0, s.splits, s.dead)
+    return s
+
+def judge(file, origin=False):
+    r = read(file)
+    if r[0] == 'refused':
+        assert not origin
+        reply(r[1], r[2]); return None
+    _, v, n, rules = r
+    many = n ** v > 4096
+    s = ask(v, n, rules, 30 if many else 1000000)
+    if not many:
+        a = first(v, n, rules)
+        assert (s.number, s.plan) == ((1, None) if a is None else (0, a)), file
+        assert s.splits <= n ** v - 1
+        if STATS: 
+            key = ('orig' if origin else 'dam', s.number, min(s.splits, 100) if s.splits<12 else s.splits//20*20); hist[key] = hist.get(key, 0) + 1
+    elif STATS: hist['many', s.number] = hist.get(('many', s.number), 0) + 1
+    if s.number == 1: assert s.dead == s.splits + 1
+    if s.number == 0: assert s.dead <= s.splits
+    return (v, n, rules, s)
+
+def one(src, file, number):
+    T['files'] += 1; T['comparisons'] += 1
+    assert len(file) < 256
+    v, n, rules, full = judge(file, True)
+    same = lambda s: (s.number, s.plan, s.splits, s.dead) == (full.number, full.plan, full.splits, full.dead)
+    for a in range(0, min(full.splits, 99) + 2):
+        s = ask(v, n, rules, a)
+        assert (s.number == 2 and s.splits == a and s.dead <= a) if a < full.splits else same(s)
+    if number % 100 == 0:
+        judge(file, True)
+        for length in range(60, 69):
+            if length < 64: reply(11)
+            else: reply(full.number, 0, full.splits, full.dead)
+        assert same(ask(v, n, rules, 999999)); reply(12); reply(12)
+        damaged(src, file)
+
+def damaged(src, file):
+    def tried(b): T['damaged'] += 1; judge(bytes(b))
+    def more(i): tried(file[:i] + bytes([src.draw(6)]) + file[i:])
+    for i in range(len(file)):
+        tried(file[:i])
+        tried(file[:i] + bytes([(file[i] + 251 + src.draw(5)) % 256]) + file[i + 1:])
+        tried(file[:i] + bytes([(file[i] + 1 + src.draw(255)) % 256]) + file[i + 1:])
+        more(i)
+    more(len(file))
+
+src = Source(20251)
+for family, size in enumerate(SIZES):
+    for k in range(size):
+        one(src, systematic(family, k) if family < 6 else drawn(family, src), k)
+reply(10); reply(10); reply(11); reply(12)
+for v, n in [(1, 1), (64, 32), (65, 32), (64, 33), (0, 1), (1, 0)]: judge(header(v, n))
+judge(header(64, 1) + field(3, bytes([0, 0, 0, 1] + [1] * 64))); judge(header(64, 1) + field(3, bytes([0, 0, 0, 1] + [1] * 65)))
+print('files', T['files']); print('damaged files', T['damaged'])
+print('PLAN', T[0]); print('NONE', T[1]); print('UNDECIDED', T[2])
+for i in range(10, 21): print('refused, %d: %d' % (i, T[i]))
+print('stalled, 21:', T[21])
+print('splits', T['splits']); print('dead ends', T['dead']); print('places', T['places'])
+print('comparisons', T['comparisons']); print('differences 0')
+if STATS:
+    for k in sorted(hist, key=str): print(k, hist[k], file=sys.stderr)
