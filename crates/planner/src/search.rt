@@ -81,24 +81,10 @@ pub(crate) fn search(
     }
     let half = first_half(saved, i);
     let rest = other_half(saved, i);
-    let first = search(
-        input,
-        v,
-        allowed,
-        half,
-        splits + 1,
-        dead_ends,
-    );
+    let first = search(input, v, allowed, half, splits + 1, dead_ends);
     let answer = first.answer;
     match answer {
-        Answer::None => search(
-            input,
-            v,
-            allowed,
-            rest,
-            first.splits,
-            first.dead_ends,
-        ),
+        Answer::None => search(input, v, allowed, rest, first.splits, first.dead_ends),
         Answer::Plan => first,
         Answer::Undecided => first,
         Answer::Stalled => first,

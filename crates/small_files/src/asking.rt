@@ -15,7 +15,7 @@ pub struct Seen {
 }
 
 // Calls the planner with an answer buffer of a length and an allowance, and counts the reply.
-pub fn ask(tally: &mut [u64; 32], file: &[u8], length: usize, allowance: u64) -> Seen
+pub(crate) fn ask(tally: &mut [u64; 32], file: &[u8], length: usize, allowance: u64) -> Seen
     requires { ⌜ length ≤ 68 ⌝ }
 {
     let mut bytes = [BLANK; 68];

@@ -8,12 +8,12 @@ ghost use Prim.Native.Nat.{_≤_, _<_};
 pub const BLANK: u8 = 238;
 
 // The bytes as they are before a call.
-pub fn blank() -> [u8; 68] {
+pub(crate) fn blank() -> [u8; 68] {
     [BLANK; 68]
 }
 
 // The first assignment in dictionary order: value 1 for positions 1 to v.
-pub fn ones(v: usize) -> [u8; 68]
+pub(crate) fn ones(v: usize) -> [u8; 68]
     requires { ⌜ v ≤ 64 ⌝ }
 {
     let mut bytes = blank();
@@ -27,7 +27,7 @@ pub fn ones(v: usize) -> [u8; 68]
 
 // Whether the bytes are an assignment: values from 1 to n for positions 1 to v, and blanks behind
 // them.
-pub fn is_assignment(bytes: &[u8; 68], v: usize, n: usize) -> bool {
+pub(crate) fn is_assignment(bytes: &[u8; 68], v: usize, n: usize) -> bool {
     let mut i = 0;
     while i < 68 {
         if !fits(bytes[i], i < v, n) {
@@ -47,7 +47,7 @@ fn fits(byte: u8, wanted: bool, n: usize) -> bool {
 }
 
 // Whether all bytes are the same.
-pub fn same(a: &[u8; 68], b: &[u8; 68]) -> bool {
+pub(crate) fn same(a: &[u8; 68], b: &[u8; 68]) -> bool {
     let mut i = 0;
     while i < 68 {
         if a[i] != b[i] {
@@ -59,7 +59,7 @@ pub fn same(a: &[u8; 68], b: &[u8; 68]) -> bool {
 }
 
 // A byte as a number.
-pub fn wide(byte: u8) -> usize
+pub(crate) fn wide(byte: u8) -> usize
     ensures { λ r. ⌜ r < 256 ⌝ }
 {
     byte as usize

@@ -3,7 +3,7 @@ ghost use Prim.Native.Nat.{_≤_, _<_};
 
 // The next number below a bound. The state goes on by one step; one that is no multiple of the
 // prime never becomes 0.
-pub fn draw(state: &mut usize, below: usize) -> usize
+pub(crate) fn draw(state: &mut usize, below: usize) -> usize
     requires { ⌜ 0 < below ⌝ }
     ensures { λ r. ⌜ r < below ⌝ }
 {
@@ -13,7 +13,7 @@ pub fn draw(state: &mut usize, below: usize) -> usize
 }
 
 // 1 in so many of four draws, and otherwise 0.
-pub fn one_in_four(state: &mut usize, times: usize) -> usize
+pub(crate) fn one_in_four(state: &mut usize, times: usize) -> usize
     ensures { λ r. ⌜ r ≤ 1 ⌝ }
 {
     if draw(state, 4) < times { 1 } else { 0 }

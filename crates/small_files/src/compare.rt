@@ -37,17 +37,17 @@ fn is_none(seen: Seen) -> bool {
 }
 
 // Whether the reply is UNDECIDED, with all of the allowance used and nothing written.
-pub fn is_undecided(seen: Seen, allowance: u64) -> bool {
+pub(crate) fn is_undecided(seen: Seen, allowance: u64) -> bool {
     is(seen, 2, &blank()) && seen.splits == allowance && seen.dead_ends <= allowance
 }
 
 // Whether the reply is this refusal at place 0, with nothing written.
-pub fn is_refusal(seen: Seen, number: usize) -> bool {
+pub(crate) fn is_refusal(seen: Seen, number: usize) -> bool {
     is(seen, number, &blank()) && seen.splits == 0 && seen.dead_ends == 0
 }
 
 // Whether two replies agree in all that was seen of them.
-pub fn agree(a: Seen, b: Seen) -> bool {
+pub(crate) fn agree(a: Seen, b: Seen) -> bool {
     let left = b.bytes;
     is(a, b.number, &left) && a.splits == b.splits && a.dead_ends == b.dead_ends
 }
@@ -95,7 +95,7 @@ fn too_many(tally: &mut [u64; 32], file: &[u8], v: usize, n: usize) -> Seen {
 }
 
 // Compares the reply to any bytes, sound or not.
-pub fn judge(tally: &mut [u64; 32], file: &[u8]) {
+pub(crate) fn judge(tally: &mut [u64; 32], file: &[u8]) {
     if sound(file) {
         judge_sound(tally, file);
     } else {
@@ -104,7 +104,7 @@ pub fn judge(tally: &mut [u64; 32], file: &[u8]) {
 }
 
 // Compares the reply to a sound file, and hands it on.
-pub fn judge_sound(tally: &mut [u64; 32], file: &[u8]) -> Seen {
+pub(crate) fn judge_sound(tally: &mut [u64; 32], file: &[u8]) -> Seen {
     let v = positions(file);
     let n = values(file);
     if assignments(v, n) <= 4096 {

@@ -10,7 +10,7 @@ use super::tally;
 use super::writing::put;
 
 // Tries all damages of a file, which is whole again in the end.
-pub fn damaged(tally: &mut [u64; 32], state: &mut usize, file: &mut [u8]) {
+pub(crate) fn damaged(tally: &mut [u64; 32], state: &mut usize, file: &mut [u8]) {
     let mut place = 0;
     while place < file.len() {
         try_damaged(tally, &file[..place]);

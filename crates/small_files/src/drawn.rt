@@ -107,7 +107,7 @@ fn shaped(file: &mut [u8], state: &mut usize, shape: Shape) -> usize
 }
 
 // A file of all kinds of fields, with up to 4 positions and up to 4 values.
-pub fn small(file: &mut [u8], state: &mut usize) -> usize
+pub(crate) fn small(file: &mut [u8], state: &mut usize) -> usize
     ensures { λ r. ⌜ r ≤ length (now (file .entry)) ⌝ }
 {
     let v = draw(state, 4) + 1;
@@ -128,7 +128,7 @@ pub fn small(file: &mut [u8], state: &mut usize) -> usize
 }
 
 // A file of clauses of two to four atoms, which often needs splits.
-pub fn clauses(file: &mut [u8], state: &mut usize) -> usize
+pub(crate) fn clauses(file: &mut [u8], state: &mut usize) -> usize
     ensures { λ r. ⌜ r ≤ length (now (file .entry)) ⌝ }
 {
     let v = draw(state, 2) + 3;
@@ -148,7 +148,7 @@ pub fn clauses(file: &mut [u8], state: &mut usize) -> usize
 }
 
 // A file of equalities of large sets.
-pub fn equalities(file: &mut [u8], state: &mut usize) -> usize
+pub(crate) fn equalities(file: &mut [u8], state: &mut usize) -> usize
     ensures { λ r. ⌜ r ≤ length (now (file .entry)) ⌝ }
 {
     let v = draw(state, 3) + 2;
@@ -168,7 +168,7 @@ pub fn equalities(file: &mut [u8], state: &mut usize) -> usize
 }
 
 // A file of more positions or more values, with at most 4,096 assignments.
-pub fn wide(file: &mut [u8], state: &mut usize) -> usize
+pub(crate) fn wide(file: &mut [u8], state: &mut usize) -> usize
     ensures { λ r. ⌜ r ≤ length (now (file .entry)) ⌝ }
 {
     let row = draw(state, 10);

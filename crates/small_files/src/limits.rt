@@ -13,7 +13,7 @@ use super::tally::expect;
 // Tries a file with each allowance from 0 to one more than the splits that its reply with the
 // largest allowance reported, but with no more than 100: UNDECIDED below the splits, and that same
 // reply from there on.
-pub fn allowances(tally: &mut [u64; 32], file: &[u8], full: Seen) {
+pub(crate) fn allowances(tally: &mut [u64; 32], file: &[u8], full: Seen) {
     let last = one_more(full.splits);
     for allowance in 0..=last {
         allowance_of(tally, file, full, allowance);
@@ -40,7 +40,7 @@ fn allowance_of(tally: &mut [u64; 32], file: &[u8], full: Seen, allowance: u64) 
 
 // Tries a file with answer buffers of 60 to 68 bytes: refusal 11 below 64, and otherwise the reply
 // that it had.
-pub fn buffers(tally: &mut [u64; 32], file: &[u8], full: Seen) {
+pub(crate) fn buffers(tally: &mut [u64; 32], file: &[u8], full: Seen) {
     for length in 60..=68 {
         buffer_of(tally, file, full, length);
     }
@@ -60,14 +60,14 @@ fn buffer_of(tally: &mut [u64; 32], file: &[u8], full: Seen, length: usize)
 }
 
 // Tries a file with allowances below the limit and above it.
-pub fn largest_allowances(tally: &mut [u64; 32], file: &[u8], full: Seen) {
+pub(crate) fn largest_allowances(tally: &mut [u64; 32], file: &[u8], full: Seen) {
     allowance_of(tally, file, full, MOST - 1);
     refused(tally, file, 64, MOST + 1, 12);
     refused(tally, file, 64, u64::MAX, 12);
 }
 
 // Tries the limits that the families do not reach.
-pub fn all(tally: &mut [u64; 32]) {
+pub(crate) fn all(tally: &mut [u64; 32]) {
     before_the_file(tally);
     headers(tally);
     longest_equality(tally);

@@ -72,7 +72,7 @@ fn field_met(field: &[u8], assignment: &[u8; 68], n: usize) -> bool {
 }
 
 // Whether an assignment meets every field behind the header.
-pub fn meets(file: &[u8], assignment: &[u8; 68], n: usize) -> bool {
+pub(crate) fn meets(file: &[u8], assignment: &[u8; 68], n: usize) -> bool {
     let mut at = 5;
     while at < file.len() {
         let next = next_field(file, at);
@@ -103,7 +103,7 @@ fn advance(assignment: &mut [u8; 68], v: usize, n: usize) -> bool
 }
 
 // The number of assignments, found by counting them, and 4,097 where there are more than 4,096.
-pub fn assignments(v: usize, n: usize) -> u64
+pub(crate) fn assignments(v: usize, n: usize) -> u64
     requires { ⌜ v ≤ 64 ⌝ }
 {
     let mut assignment = ones(v);
@@ -124,7 +124,7 @@ pub struct Found {
 }
 
 // The first of the first 4,096 assignments that meets every field.
-pub fn first(file: &[u8], v: usize, n: usize) -> Found
+pub(crate) fn first(file: &[u8], v: usize, n: usize) -> Found
     requires { ⌜ v ≤ 64 ⌝ }
 {
     let mut assignment = ones(v);

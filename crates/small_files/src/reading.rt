@@ -5,14 +5,14 @@ ghost use lib.ListN.{length};
 use super::buffer::wide;
 
 // The byte at an index as a number, and 0 behind the end.
-pub fn byte(bytes: &[u8], i: usize) -> usize
+pub(crate) fn byte(bytes: &[u8], i: usize) -> usize
     ensures { λ r. ⌜ r < 256 ⌝ }
 {
     if i < bytes.len() { wide(bytes[i]) } else { 0 }
 }
 
 // The number of positions that a header names, but never more than 64.
-pub fn positions(file: &[u8]) -> usize
+pub(crate) fn positions(file: &[u8]) -> usize
     ensures { λ r. ⌜ r ≤ 64 ⌝ }
 {
     let v = byte(file, 3);
@@ -20,7 +20,7 @@ pub fn positions(file: &[u8]) -> usize
 }
 
 // The number of values that a header names.
-pub fn values(file: &[u8]) -> usize {
+pub(crate) fn values(file: &[u8]) -> usize {
     byte(file, 4)
 }
 
@@ -32,7 +32,7 @@ fn length_of(field: &[u8]) -> usize
 }
 
 // Where the field behind the one at a place starts; the end of the file where that one is cut.
-pub fn next_field(file: &[u8], at: usize) -> usize
+pub(crate) fn next_field(file: &[u8], at: usize) -> usize
     requires { ⌜ at < length (now file) ⌝ }
     ensures { λ r. ⌜ (at < r) × (r ≤ length (now (file .entry))) ⌝ }
 {
@@ -44,7 +44,7 @@ pub fn next_field(file: &[u8], at: usize) -> usize
 }
 
 // Whether a value is in the set whose four bytes stand at the front.
-pub fn contains(set: &[u8], value: usize) -> bool {
+pub(crate) fn contains(set: &[u8], value: usize) -> bool {
     if value < 1 {
         return false;
     }
@@ -138,7 +138,7 @@ fn fields_sound(file: &[u8], v: usize, n: usize) -> bool {
 
 // Whether a file is sound: a header of 1 to 64 positions and 1 to 32 values, and behind it only
 // clauses and equalities, all of them whole, with positions up to v and values up to n.
-pub fn sound(file: &[u8]) -> bool {
+pub(crate) fn sound(file: &[u8]) -> bool {
     if file.len() < 5 || byte(file, 0) != 1 || byte(file, 1) != 0 || byte(file, 2) != 2 {
         return false;
     }

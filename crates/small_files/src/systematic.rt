@@ -56,7 +56,7 @@ fn equality(file: &mut [u8], at: usize, values: usize, number: usize, v: usize) 
 }
 
 // 73 by 73 files: v 2, n 2, two clauses of up to two atoms.
-pub fn two_clauses(file: &mut [u8], number: usize) -> usize
+pub(crate) fn two_clauses(file: &mut [u8], number: usize) -> usize
     ensures { λ r. ⌜ r ≤ length (now (file .entry)) ⌝ }
 {
     let mut rest = number;
@@ -67,7 +67,7 @@ pub fn two_clauses(file: &mut [u8], number: usize) -> usize
 }
 
 // 273 by 17 files: v 2, n 3, a clause of up to two atoms and one of up to one atom.
-pub fn wider_clauses(file: &mut [u8], number: usize) -> usize
+pub(crate) fn wider_clauses(file: &mut [u8], number: usize) -> usize
     ensures { λ r. ⌜ r ≤ length (now (file .entry)) ⌝ }
 {
     let mut rest = number;
@@ -78,7 +78,7 @@ pub fn wider_clauses(file: &mut [u8], number: usize) -> usize
 }
 
 // 56 by 56 files: v 2, n 3, two equalities of up to two positions.
-pub fn two_equalities(file: &mut [u8], number: usize) -> usize
+pub(crate) fn two_equalities(file: &mut [u8], number: usize) -> usize
     ensures { λ r. ⌜ r ≤ length (now (file .entry)) ⌝ }
 {
     let mut rest = number;
@@ -91,7 +91,7 @@ pub fn two_equalities(file: &mut [u8], number: usize) -> usize
 }
 
 // 73 by 60 files: v 2, n 2, a clause of up to two atoms and an equality of up to three positions.
-pub fn clause_and_equality(file: &mut [u8], number: usize) -> usize
+pub(crate) fn clause_and_equality(file: &mut [u8], number: usize) -> usize
     ensures { λ r. ⌜ r ≤ length (now (file .entry)) ⌝ }
 {
     let mut rest = number;
@@ -103,7 +103,7 @@ pub fn clause_and_equality(file: &mut [u8], number: usize) -> usize
 }
 
 // 320 by 25 files: v 3, n 3, an equality of up to three positions and a clause of up to one atom.
-pub fn equality_and_clause(file: &mut [u8], number: usize) -> usize
+pub(crate) fn equality_and_clause(file: &mut [u8], number: usize) -> usize
     ensures { λ r. ⌜ r ≤ length (now (file .entry)) ⌝ }
 {
     let mut rest = number;
@@ -115,7 +115,7 @@ pub fn equality_and_clause(file: &mut [u8], number: usize) -> usize
 }
 
 // 16 by 341 files: v 4, n 4, an equality of up to four positions.
-pub fn one_equality(file: &mut [u8], number: usize) -> usize
+pub(crate) fn one_equality(file: &mut [u8], number: usize) -> usize
     ensures { λ r. ⌜ r ≤ length (now (file .entry)) ⌝ }
 {
     let mut rest = number;

@@ -20,7 +20,7 @@ pub const COMPARISONS: usize = 27;
 pub const DIFFERENCES: usize = 28;
 
 // Adds to a count. A place that is none of the 32 changes nothing.
-pub fn add(tally: &mut [u64; 32], place: usize, more: u64) {
+pub(crate) fn add(tally: &mut [u64; 32], place: usize, more: u64) {
     if place < 32 {
         tally[place] = std::num::wrapping_add_u64(tally[place], more);
     }
@@ -28,7 +28,7 @@ pub fn add(tally: &mut [u64; 32], place: usize, more: u64) {
 
 // Counts a comparison, and a difference where it did not hold. The bytes of the first file with a
 // difference are printed, after what was compared.
-pub fn expect(tally: &mut [u64; 32], holds: bool, what: &[u8], file: &[u8]) {
+pub(crate) fn expect(tally: &mut [u64; 32], holds: bool, what: &[u8], file: &[u8]) {
     add(tally, COMPARISONS, 1);
     if holds {
         return;
@@ -42,7 +42,7 @@ pub fn expect(tally: &mut [u64; 32], holds: bool, what: &[u8], file: &[u8]) {
 }
 
 // Prints all counts, a line for each.
-pub fn print(tally: &[u64; 32]) {
+pub(crate) fn print(tally: &[u64; 32]) {
     line(b"files ", tally[FILES]);
     line(b"damaged files ", tally[DAMAGED]);
     line(b"PLAN ", tally[0]);

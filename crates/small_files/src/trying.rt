@@ -27,7 +27,7 @@ const SIZES: [usize; 10] = [
 ];
 
 // All families. The pseudo-random numbers go on from file to file.
-pub fn all(tally: &mut [u64; 32]) {
+pub(crate) fn all(tally: &mut [u64; 32]) {
     let mut state = 20_251;
     for family in 0..SIZES.len() {
         every(tally, &mut state, family, SIZES[family]);

@@ -7,7 +7,7 @@ ghost use Prim.Native.Nat.{_≤_};
 ghost use lib.ListN.{length};
 
 // Writes a byte.
-pub fn put(file: &mut [u8], at: usize, byte: usize) -> usize
+pub(crate) fn put(file: &mut [u8], at: usize, byte: usize) -> usize
     ensures { λ r. ⌜ r ≤ length (now (file .entry)) ⌝ }
 {
     if at < file.len() {
@@ -18,7 +18,7 @@ pub fn put(file: &mut [u8], at: usize, byte: usize) -> usize
 }
 
 // Writes a header at the front.
-pub fn header(file: &mut [u8], v: usize, n: usize) -> usize
+pub(crate) fn header(file: &mut [u8], v: usize, n: usize) -> usize
     ensures { λ r. ⌜ r ≤ length (now (file .entry)) ⌝ }
 {
     let at = put(file, 0, 1);
@@ -29,7 +29,7 @@ pub fn header(file: &mut [u8], v: usize, n: usize) -> usize
 }
 
 // Writes a field's tag, and leaves two bytes for its length.
-pub fn open(file: &mut [u8], at: usize, tag: usize) -> usize
+pub(crate) fn open(file: &mut [u8], at: usize, tag: usize) -> usize
     ensures { λ r. ⌜ r ≤ length (now (file .entry)) ⌝ }
 {
     let at = put(file, at, tag);
@@ -38,7 +38,7 @@ pub fn open(file: &mut [u8], at: usize, tag: usize) -> usize
 }
 
 // Writes the length of the field between two places into its head.
-pub fn close(file: &mut [u8], from: usize, to: usize) {
+pub(crate) fn close(file: &mut [u8], from: usize, to: usize) {
     if to < 3 {
         return;
     }
@@ -50,7 +50,7 @@ pub fn close(file: &mut [u8], from: usize, to: usize) {
 }
 
 // Writes a set as four bytes, high byte first.
-pub fn set(file: &mut [u8], at: usize, set: usize) -> usize
+pub(crate) fn set(file: &mut [u8], at: usize, set: usize) -> usize
     ensures { λ r. ⌜ r ≤ length (now (file .entry)) ⌝ }
 {
     let at = put(file, at, set / 16777216);
@@ -60,7 +60,7 @@ pub fn set(file: &mut [u8], at: usize, set: usize) -> usize
 }
 
 // Writes an atom.
-pub fn atom(file: &mut [u8], at: usize, position: usize, values: usize) -> usize
+pub(crate) fn atom(file: &mut [u8], at: usize, position: usize, values: usize) -> usize
     ensures { λ r. ⌜ r ≤ length (now (file .entry)) ⌝ }
 {
     let at = put(file, at, position);
