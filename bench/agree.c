@@ -1,0 +1,917 @@
+/* Agreement: the proved planner and the yardstick are called with the same files, buffers and
+   allowances, and must give the same reply and leave the same bytes.
+
+       agree [CALLS [SEED]]      CALLS is the least number of calls, 400,000 where it is not given
+
+   The files come from generators with a seed that is fixed where none is given, so every run makes the
+   same calls, on every machine. A difference stops the run, with exit status 1, after the file's bytes,
+   the call and both replies are printed. */
+#define _GNU_SOURCE
+#include <signal.h>
+#include <stdio.h>
+#include <stdlib.h>
+#include <string.h>
+#include <sys/mman.h>
+#include <unistd.h>
+
+#include "oarloom.h"
+#include "workloads.h"
+#include "yardstick.h"
+
+static uint64_t seed = 20071;
+static struct random chance;
+
+/* the file of the current call */
+static struct rule_file file;
+
+static uint32_t below(uint32_t end) { return random_below(&chance, end); }
+static int one_in(uint32_t of) { return random_chance(&chance, 1, of); }
+
+/* counts what the current file has in it */
+static void survey(void);
+
+/* ---- calling both ---- */
+
+enum { GUARD = 64, LONGEST_ANSWER = 200, AREA = GUARD + LONGEST_ANSWER + GUARD };
+
+/* What came of a call: the reply's four numbers, and the answer buffer with the bytes around it. */
+struct outcome {
+    uint64_t number, place, splits, dead_ends;
+    uint8_t area[AREA];
+};
+
+typedef void planner(const uint8_t *input, size_t input_len, uint8_t *answer, size_t answer_len,
+                     uint64_t allowance, uint64_t *number, uint64_t *place, uint64_t *splits,
+                     uint64_t *dead_ends);
+
+/* The input is put directly before a page that cannot be read, so that a planner which reads past the
+   input's end is stopped by the machine. */
+static uint8_t *input_end;
+
+static void make_input_pages(void)
+{
+    size_t page = (size_t)sysconf(_SC_PAGESIZE);
+    size_t size = (sizeof file.bytes + page - 1) / page * page;
+    uint8_t *pages = mmap(0, size + page, PROT_READ | PROT_WRITE, MAP_PRIVATE | MAP_ANONYMOUS, -1, 0);
+
+    if (pages == MAP_FAILED || mprotect(pages + size, page, PROT_NONE) != 0) {
+        fprintf(stderr, "agree: no memory for the input\n");
+        exit(2);
+    }
+    input_end = pages + size;
+}
+
+static uint64_t calls, calls_by_number[32];
+static uint64_t most_splits;
+static uint64_t sum = 0xcbf29ce484222325; /* over all that was passed in, to tell two runs apart */
+
+static void add_to_sum(const uint8_t *bytes, size_t length)
+{
+    for (size_t at = 0; at < length; at++)
+        sum = (sum ^ bytes[at]) * 0x100000001b3; /* FNV-1a */
+}
+
+static void print_bytes(const char *what, const uint8_t *bytes, size_t length)
+{
+    printf("%s, %zu bytes:", what, length);
+    for (size_t at = 0; at < length; at++)
+        printf("%s%02x", at % 32 == 0 ? "\n    " : " ", bytes[at]);
+    printf("\n");
+}
+
+static void print_outcome(const char *who, const struct outcome *outcome, size_t answer_len)
+{
+    printf("%s: number %llu, place %llu, splits %llu, dead ends %llu\n", who,
+           (unsigned long long)outcome->number, (unsigned long long)outcome->place,
+           (unsigned long long)outcome->splits, (unsigned long long)outcome->dead_ends);
+    print_bytes("  the 64 bytes before its answer buffer", outcome->area, GUARD);
+    print_bytes("  its answer buffer", outcome->area + GUARD, answer_len);
+    print_bytes("  the bytes behind", outcome->area + GUARD + answer_len, AREA - GUARD - answer_len);
+}
+
+/* Stops the run: says what is wrong and prints all that is needed to make the call again. */
+static void stop(const char *what, const struct outcome *planned, const struct outcome *measured,
+                 const uint8_t *area, size_t answer_len, uint64_t allowance)
+{
+    printf("DIFFERENCE in call %llu: %s\n", (unsigned long long)calls, what);
+    printf("answer buffer of %zu bytes, allowance %llu\n", answer_len, (unsigned long long)allowance);
+    print_bytes("the file", file.bytes, file.length);
+    print_bytes("the answer buffer before", area + GUARD, answer_len);
+    print_outcome("planner", planned, answer_len);
+    print_outcome("yardstick", measured, answer_len);
+    exit(1);
+}
+
+/* the call that is running, for the case that the machine stops it */
+static struct {
+    const char *who;
+    size_t answer_len;
+    uint64_t allowance;
+} running;
+
+/* Where a planner reads or writes what it may not: prints the call and ends the run. */
+static void crashed(int signal_number)
+{
+    printf("DIFFERENCE in call %llu: signal %d stopped the %s\n", (unsigned long long)calls, signal_number,
+           running.who);
+    printf("answer buffer of %zu bytes, allowance %llu\n", running.answer_len,
+           (unsigned long long)running.allowance);
+    print_bytes("the file", file.bytes, file.length);
+    fflush(stdout);
+    _exit(1);
+}
+
+/* The handler has a stack of its own, so that it also runs where the stack is used up. */
+static void catch_crashes(void)
+{
+    static uint8_t stack[65536];
+    stack_t own = { .ss_sp = stack, .ss_size = sizeof stack };
+    struct sigaction action = { .sa_handler = crashed, .sa_flags = SA_ONSTACK };
+
+    sigaltstack(&own, 0);
+    sigaction(SIGSEGV, &action, 0);
+    sigaction(SIGBUS, &action, 0);
+    sigaction(SIGILL, &action, 0);
+    sigaction(SIGFPE, &action, 0);
+}
+
+static void call(planner *plan, const uint8_t *area, size_t answer_len, uint64_t allowance, struct outcome *outcome)
+{
+    running.who = plan == oarloom_plan ? "planner" : "yardstick";
+    running.answer_len = answer_len;
+    running.allowance = allowance;
+    /* Numbers that no reply has, so that one that is not written shows. */
+    outcome->number = outcome->place = outcome->splits = outcome->dead_ends = 0xdeadbeefdeadbeef;
+    memcpy(outcome->area, area, AREA);
+    plan(input_end - file.length, file.length, outcome->area + GUARD, answer_len, allowance,
+         &outcome->number, &outcome->place, &outcome->splits, &outcome->dead_ends);
+}
+
+/* Calls both with the current file and compares. Answers what came of it. */
+static struct outcome compare(size_t answer_len, uint64_t allowance)
+{
+    struct outcome planned, measured;
+    uint8_t area[AREA];
+    size_t written;
+
+    for (size_t at = 0; at < AREA; at++)
+        area[at] = (uint8_t)random_next(&chance);
+    calls++;
+    add_to_sum(file.bytes, file.length);
+    add_to_sum((const uint8_t[]) { (uint8_t)answer_len, (uint8_t)allowance, (uint8_t)(allowance >> 8) }, 3);
+    memcpy(input_end - file.length, file.bytes, file.length);
+    call(oarloom_plan, area, answer_len, allowance, &planned);
+    if (memcmp(input_end - file.length, file.bytes, file.length) != 0) {
+        printf("the planner wrote to its input\n");
+        memcpy(input_end - file.length, file.bytes, file.length);
+        call(yardstick_plan, area, answer_len, allowance, &measured);
+        stop("the input was changed", &planned, &measured, area, answer_len, allowance);
+    }
+    call(yardstick_plan, area, answer_len, allowance, &measured);
+    if (planned.number != measured.number)
+        stop("number", &planned, &measured, area, answer_len, allowance);
+    if (planned.place != measured.place)
+        stop("place", &planned, &measured, area, answer_len, allowance);
+    if (planned.splits != measured.splits)
+        stop("splits", &planned, &measured, area, answer_len, allowance);
+    if (planned.dead_ends != measured.dead_ends)
+        stop("dead ends", &planned, &measured, area, answer_len, allowance);
+    if (memcmp(planned.area, measured.area, AREA) != 0)
+        stop("the answer buffer, or bytes around it", &planned, &measured, area, answer_len, allowance);
+    /* Both agree; so the bytes that stay can be tested on one. PLAN writes v bytes, v being the
+       fourth byte of the file. */
+    written = planned.number == 0 ? file.bytes[3] : 0;
+    if (memcmp(planned.area, area, GUARD) != 0
+        || memcmp(planned.area + GUARD + written, area + GUARD + written, AREA - GUARD - written) != 0)
+        stop("both wrote bytes that have to stay", &planned, &measured, area, answer_len, allowance);
+    calls_by_number[planned.number % 32]++;
+    if (planned.splits > most_splits)
+        most_splits = planned.splits;
+    if (planned.number < 10)
+        survey();
+    return planned;
+}
+
+/* ---- 01's examples, with the replies that 01 states ---- */
+
+enum { CLAUSE = -1, EQUALITY = -2, END = -3 };
+
+static const struct example {
+    const char *name;
+    int rules[40]; /* v, n; then a clause with position, set, ..; an equality with M, position, .. */
+    uint64_t allowance, number, splits, dead_ends;
+    const char *plan; /* a digit for each position */
+} examples[] = {
+    { "a", { 3, 2, CLAUSE, 1, 2, 2, 2, 3, 1, CLAUSE, 1, 1, 2, 1, CLAUSE, 3, 2, CLAUSE, 1, 2, 2, 1, END },
+      1000000, 0, 1, 1, "212" },
+    { "b", { 4, 2, CLAUSE, 1, 2, 2, 1, 3, 1, 4, 1, CLAUSE, 2, 2, 4, 1, CLAUSE, 3, 2, 4, 1, CLAUSE, 4, 2, END },
+      1000000, 0, 0, 0, "2222" },
+    { "c", { 2, 3, END }, 1000000, 0, 0, 0, "11" },
+    { "d", { 2, 3, CLAUSE, END }, 1000000, 1, 0, 1, "" },
+    { "e", { 2, 2, EQUALITY, 3, 1, 2, END }, 1000000, 0, 1, 0, "12" },
+    { "f", { 2, 2, EQUALITY, 3, 1, 2, END }, 0, 2, 0, 0, "" },
+    { "g", { 2, 3, EQUALITY, 7, 1, 2, END }, 1000000, 1, 1, 2, "" },
+    { "h", { 3, 3, EQUALITY, 7, 1, 2, 3, END }, 1000000, 0, 3, 1, "123" },
+    { "i", { 3, 3, EQUALITY, 7, 1, 2, 3, END }, 2, 2, 2, 1, "" },
+    { "j", { 2, 3, CLAUSE, 1, 6, CLAUSE, 1, 1, 2, 4, END }, 1000000, 0, 0, 0, "23" },
+    { "k", { 2, 2, CLAUSE, 1, 1, 2, 1, END }, 1000000, 0, 1, 0, "11" },
+    { "l", { 3, 2, CLAUSE, 2, 1, 3, 1, CLAUSE, 2, 1, 3, 2, CLAUSE, 2, 2, 3, 1, CLAUSE, 2, 2, 3, 2, END },
+      1000000, 1, 3, 4, "" },
+    { "largest", { 64, 32, END }, 1000000, 0, 0, 0,
+      "1111111111111111111111111111111111111111111111111111111111111111" },
+};
+
+static const struct refused {
+    const char *name;
+    size_t length;
+    uint8_t bytes[16];
+    uint64_t number, place;
+} refused[] = {
+    { "empty input", 0, { 0 }, 14, 0 },
+    { "a cut head", 2, { 1, 0 }, 13, 0 },
+    { "65 positions", 5, { 1, 0, 2, 65, 32 }, 18, 0 },
+    { "a second header", 10, { 1, 0, 2, 2, 2, 1, 0, 2, 2, 2 }, 15, 5 },
+    { "a clause of four bytes", 12, { 1, 0, 2, 2, 2, 2, 0, 4, 1, 0, 0, 0 }, 17, 5 },
+    { "value 3 of 2", 13, { 1, 0, 2, 2, 2, 2, 0, 5, 1, 0, 0, 0, 4 }, 20, 5 },
+};
+
+static void write_rules(const int *rules)
+{
+    int kind = 0;
+
+    write_header(&file, (uint32_t)rules[0], (uint32_t)rules[1]);
+    for (const int *at = rules + 2; *at != END; at++) {
+        if (*at == CLAUSE || *at == EQUALITY) {
+            kind = *at;
+            if (kind == CLAUSE)
+                write_clause(&file);
+            else
+                write_equality(&file, (uint32_t)*++at);
+        } else if (kind == CLAUSE) {
+            write_atom(&file, (uint32_t)at[0], (uint32_t)at[1]);
+            at++;
+        } else {
+            write_named(&file, (uint32_t)*at);
+        }
+    }
+}
+
+static void expect(int holds, const char *name)
+{
+    if (holds)
+        return;
+    printf("both planners give another reply than 01 states for its example: %s\n", name);
+    exit(1);
+}
+
+static void compare_examples(void)
+{
+    for (size_t k = 0; k < sizeof examples / sizeof *examples; k++) {
+        const struct example *example = &examples[k];
+        struct outcome outcome;
+
+        write_rules(example->rules);
+        outcome = compare(64, example->allowance);
+        expect(outcome.number == example->number && outcome.place == 0
+                   && outcome.splits == example->splits && outcome.dead_ends == example->dead_ends,
+               example->name);
+        for (size_t i = 0; example->plan[i]; i++)
+            expect(outcome.area[GUARD + i] == example->plan[i] - '0', example->name);
+    }
+    for (size_t k = 0; k < sizeof refused / sizeof *refused; k++) {
+        struct outcome outcome;
+
+        file.length = refused[k].length;
+        memcpy(file.bytes, refused[k].bytes, refused[k].length);
+        outcome = compare(64, 1000000);
+        expect(outcome.number == refused[k].number && outcome.place == refused[k].place
+                   && outcome.splits == 0 && outcome.dead_ends == 0,
+               refused[k].name);
+    }
+}
+
+/* ---- files at random ---- */
+
+/* a set within {1..n}: empty, full, one value, the low values, the high values, or any */
+static uint32_t any_set(uint32_t n)
+{
+    uint32_t all = values_to(n);
+
+    switch (below(12)) {
+    case 0: return 0;
+    case 1: return all;
+    case 2:
+    case 3:
+    case 4: return value_alone(1 + below(n));
+    case 5: return values_to(below(n + 1));
+    case 6: return all & ~values_to(below(n + 1));
+    default: return (uint32_t)random_next(&chance) & all;
+    }
+}
+
+/* one value or two */
+static uint32_t two_values(uint32_t n)
+{
+    uint32_t set = value_alone(1 + below(n));
+
+    return set | value_alone(1 + below(n));
+}
+
+/* adds an atom to the clause */
+static void any_atom(uint32_t v, uint32_t n)
+{
+    uint32_t position = 1 + below(v);
+
+    write_atom(&file, position, any_set(n));
+}
+
+/* a clause of up to `most` atoms; a position may come several times */
+static void any_clause(uint32_t v, uint32_t n, uint32_t most)
+{
+    write_clause(&file);
+    if (one_in(60))
+        return; /* an empty clause */
+    for (uint32_t left = 1 + below(most); left > 0; left--)
+        any_atom(v, n);
+}
+
+/* an equality of up to `most` positions, with or without repeats */
+static void any_equality(uint32_t v, uint32_t n, uint32_t most)
+{
+    uint32_t positions = below(most + 1), span = 1 + below(v);
+
+    write_equality(&file, one_in(4) ? values_to(n) : any_set(n));
+    for (; positions > 0; positions--)
+        write_named(&file, 1 + below(span));
+}
+
+/* Few positions and values, up to a dozen rules of all kinds. */
+static void make_small(void)
+{
+    uint32_t v = 1 + below(5), n = 1 + below(4);
+
+    write_header(&file, v, n);
+    for (uint32_t left = below(12); left > 0; left--)
+        if (one_in(4))
+            any_equality(v, n, v + 2);
+        else
+            any_clause(v, n, 4);
+}
+
+/* Any number of positions and values, up to 40 rules. */
+static void make_medium(void)
+{
+    uint32_t v = 1 + below(64), n = 1 + below(32);
+
+    write_header(&file, v, n);
+    for (uint32_t left = below(40); left > 0; left--)
+        if (one_in(12))
+            any_equality(v, n, 8);
+        else
+            any_clause(v, n, 6);
+}
+
+/* Shrinking before the split: clauses that cut the smallest values away, at once or as soon as an
+   earlier position has been split, and clauses that keep the box from being settled. */
+static void make_cut_first(void)
+{
+    uint32_t v = 2 + below(5), n = 3 + below(8);
+    uint32_t all = values_to(n);
+
+    write_header(&file, v, n);
+    for (uint32_t left = 3 + below(14); left > 0; left--) {
+        uint32_t p = 1 + below(v), q = 1 + below(v), cut = 1 + below((n + 1) / 2);
+
+        switch (below(7)) {
+        case 0: /* p takes a higher value */
+            write_clause(&file);
+            write_atom(&file, p, all & ~values_to(cut));
+            break;
+        case 1: /* if p takes this value, q takes a higher one */
+        case 2:
+        case 3:
+            write_clause(&file);
+            write_atom(&file, p, all & ~value_alone(1 + below(n)));
+            write_atom(&file, q, all & ~values_to(cut));
+            break;
+        case 4: /* if p takes a value from some value on, q takes one from a set */
+        case 5:
+            write_clause(&file);
+            write_atom(&file, p, values_to(below(n)));
+            write_atom(&file, q, any_set(n));
+            break;
+        default: /* p and q, and now and then a third, use these two values between them */
+            write_equality(&file, two_values(n));
+            write_named(&file, p);
+            write_named(&file, q);
+            if (one_in(3))
+                write_named(&file, 1 + below(v));
+        }
+    }
+}
+
+/* A short ladder: each position drives the next one up, and the last one drives the first, with the
+   fields in file order or against it; in the second case a round cuts one room or few. */
+static void make_climb(void)
+{
+    uint32_t v = 2 + below(6), n = 2 + below(7);
+    uint32_t all = values_to(n);
+    int against = one_in(2);
+
+    write_header(&file, v, n);
+    write_clause(&file);
+    write_atom(&file, 1, all & ~values_to(1));
+    for (uint32_t step = 1; step <= v; step++) {
+        uint32_t p = against ? v + 1 - step : step, q = p == v ? 1 : p + 1;
+
+        for (uint32_t least = 2; least <= n; least++) {
+            uint32_t then = least + (p == v);
+
+            if (then > n)
+                break;
+            write_clause(&file);
+            write_atom(&file, p, values_to(least - 1));
+            write_atom(&file, q, all & ~values_to(then - 1));
+        }
+    }
+    if (one_in(2))
+        any_clause(v, n, 3);
+    if (one_in(4))
+        any_equality(v, n, v);
+}
+
+/* Equalities above all: as many values as positions, one more or fewer, repeats. */
+static void make_equalities(void)
+{
+    uint32_t v = 1 + below(6), n = 1 + below(5);
+
+    write_header(&file, v, n);
+    for (uint32_t left = 1 + below(4); left > 0; left--) {
+        uint32_t from = 1 + below(v), to = from + below(v - from + 1);
+
+        write_equality(&file, one_in(3) ? any_set(n) : values_to(1 + below(n)));
+        for (uint32_t p = from; p <= to; p++) {
+            write_named(&file, p);
+            if (one_in(4))
+                write_named(&file, from + below(to - from + 1));
+        }
+        if (one_in(3))
+            any_clause(v, n, 3);
+    }
+}
+
+/* Clauses of three positions with one or two of two or three values. */
+static void make_threes(void)
+{
+    uint32_t v = 3 + below(10), n = 2 + below(2);
+
+    write_header(&file, v, n);
+    for (uint32_t left = v * (2 + below(4)); left > 0; left--) {
+        write_clause(&file);
+        for (int k = 0; k < 3; k++) {
+            uint32_t position = 1 + below(v);
+
+            write_atom(&file, position, n == 3 ? two_values(n) : value_alone(1 + below(n)));
+        }
+    }
+}
+
+/* The workloads of the table, in small. */
+static void make_workload(void)
+{
+    switch (below(6)) {
+    case 0: make_sudoku(&file, 4, (int)below(9)); break;
+    case 1: make_sudoku(&file, 6, 6 + (int)below(12)); break;
+    case 2: make_deep(&file, 1 + (int)below(5), 0); break;
+    case 3: {
+        int clauses = (int)below(100);
+
+        make_ladder_random(&file, clauses, (int)below(1000));
+        break;
+    }
+    default: {
+        int size = 1 + (int)below(8);
+
+        make_queens(&file, size, (int)below(3));
+    }
+    }
+}
+
+/* A byte that a limit goes by, or one beside it. */
+static uint32_t edge(uint32_t limit)
+{
+    switch (below(12)) {
+    case 0: return 0;
+    case 1: return limit + 1;
+    case 2: return 255;
+    case 3:
+    case 4: return 1;
+    case 5:
+    case 6: return limit;
+    default: return 1 + below(limit);
+    }
+}
+
+/* A set at the limit n, now and then with a value above it. */
+static uint32_t edge_set(uint32_t n)
+{
+    switch (below(16)) {
+    case 0: return n < 32 ? value_alone(n + 1) : value_alone(32);
+    case 1: return UINT32_MAX;
+    case 2: return value_alone(32);
+    case 3: return values_to(n);
+    case 4: return 0;
+    case 5: return value_alone(n);
+    default: return any_set(n);
+    }
+}
+
+/* Positions, values, sets and lengths at their limits and just beyond. About half are refused. */
+static void make_limits(void)
+{
+    static const uint32_t v_limits[] = { 1, 2, 63, 64, 64, 64, 0, 65, 255 };
+    static const uint32_t n_limits[] = { 1, 2, 31, 32, 32, 32, 0, 33, 255 };
+    uint32_t v = v_limits[below(one_in(4) ? 9 : 6)], n = n_limits[below(one_in(4) ? 9 : 6)];
+    uint32_t within_v = v < 1 || v > 64 ? 64 : v, within_n = n < 1 || n > 32 ? 32 : n;
+    int strict = one_in(2); /* whether limits are kept in the rules */
+
+    write_header(&file, v, n);
+    for (uint32_t left = below(6); left > 0; left--) {
+        if (one_in(3)) {
+            uint32_t positions = one_in(3) ? 62 + below(strict ? 3 : 4) : below(6);
+
+            write_equality(&file, strict ? any_set(within_n) : edge_set(within_n));
+            for (; positions > 0; positions--)
+                write_named(&file, strict || !one_in(8) ? 1 + below(within_v) : edge(within_v));
+        } else {
+            uint32_t atoms = one_in(6) ? 60 + below(80) : below(5);
+
+            write_clause(&file);
+            for (; atoms > 0; atoms--) {
+                uint32_t position = strict || !one_in(4) ? 1 + below(within_v) : edge(within_v);
+
+                write_atom(&file, position, strict || !one_in(4) ? any_set(within_n) : edge_set(within_n));
+            }
+        }
+    }
+}
+
+/* A header and bytes that mean nothing, small ones above all. */
+static void make_bytes(void)
+{
+    uint32_t v = 1 + below(3);
+
+    write_header(&file, v, 1 + below(3));
+    if (one_in(4))
+        file.length = 0;
+    for (uint32_t left = below(40); left > 0; left--)
+        write_byte(&file, one_in(8) ? below(256) : below(6));
+}
+
+/* A file of nearly, exactly or just over 32,768 bytes. */
+static void make_long(void)
+{
+    size_t target = one_in(3) ? 32768 : one_in(8) ? 32769 + below(20000) : 32760 + below(12);
+    uint32_t v = 1 + below(64), n = 1 + below(32);
+
+    write_header(&file, v, n);
+    while (target - file.length > 200) {
+        if (one_in(20))
+            any_equality(v, n, 1);
+        write_clause(&file);
+        for (uint32_t left = 1 + below(12); left > 0; left--) {
+            uint32_t position = 1 + below(v);
+
+            write_atom(&file, position, values_to(n) & ~(one_in(2) ? value_alone(1 + below(n)) : 0));
+        }
+    }
+    while (file.length < target) {
+        size_t left = target - file.length;
+        size_t size = left <= 71 ? left : left < 78 ? 60 : 71; /* never leaves fewer than 7 bytes */
+
+        write_equality(&file, values_to(1));
+        while (file.length - file.open < size)
+            write_named(&file, 1 + below(v));
+    }
+}
+
+/* ---- changing a file ---- */
+
+static size_t starts[LONGEST_FILE]; /* where the fields begin, and the end of the last whole one */
+
+/* Fills `starts` and answers how many whole fields there are. */
+static size_t find_fields(void)
+{
+    size_t count = 0, at = 0;
+
+    while (at + 3 <= file.length && count + 1 < sizeof starts / sizeof *starts) {
+        size_t next = at + 3 + ((size_t)file.bytes[at + 1] << 8 | file.bytes[at + 2]);
+
+        if (next > file.length)
+            break;
+        starts[count++] = at;
+        at = next;
+    }
+    starts[count] = at;
+    return count;
+}
+
+/* Puts the fields behind the header into another order. */
+static void shuffle(void)
+{
+    static uint8_t copy[sizeof file.bytes];
+    static size_t order[LONGEST_FILE];
+    size_t count = find_fields(), to;
+
+    if (count < 3 || starts[count] != file.length)
+        return;
+    memcpy(copy, file.bytes, file.length);
+    for (size_t k = 0; k < count; k++)
+        order[k] = k;
+    for (size_t k = count - 1; k > 1; k--) {
+        size_t other = 1 + below((uint32_t)k), kept = order[k];
+
+        order[k] = order[other];
+        order[other] = kept;
+    }
+    to = starts[1];
+    for (size_t k = 1; k < count; k++) {
+        size_t size = starts[order[k] + 1] - starts[order[k]];
+
+        memcpy(file.bytes + to, copy + starts[order[k]], size);
+        to += size;
+    }
+}
+
+static void insert(size_t at, const uint8_t *bytes, size_t length)
+{
+    if (file.length + length > sizeof file.bytes)
+        return;
+    memmove(file.bytes + at + length, file.bytes + at, file.length - at);
+    memcpy(file.bytes + at, bytes, length);
+    file.length += length;
+}
+
+/* Damages the file in one place. */
+static void damage(void)
+{
+    static const uint8_t telling[] = { 0, 1, 2, 3, 4, 5, 17, 32, 33, 64, 65, 68, 69, 128, 255 };
+    size_t fields = find_fields(), field, at;
+
+    if (file.length == 0)
+        return;
+    field = fields ? starts[below((uint32_t)fields)] : 0;
+    at = below((uint32_t)file.length);
+    switch (below(12)) {
+    case 0: /* one bit */
+        file.bytes[at] ^= (uint8_t)(1 << below(8));
+        break;
+    case 1: /* one byte */
+        file.bytes[at] = telling[below(sizeof telling)];
+        break;
+    case 2: /* a byte is lost */
+        memmove(file.bytes + at, file.bytes + at + 1, file.length - at - 1);
+        file.length--;
+        break;
+    case 3: { /* a byte too many */
+        uint8_t byte = telling[below(sizeof telling)];
+
+        insert(at, &byte, 1);
+        break;
+    }
+    case 4: /* the end is lost */
+        file.length = at;
+        break;
+    case 5: /* the end is lost inside the last fields' heads */
+        file.length = fields ? field + below(4) : at;
+        break;
+    case 6: /* bytes follow */
+        for (uint32_t left = 1 + below(6); left > 0 && file.length < sizeof file.bytes; left--)
+            write_byte(&file, telling[below(sizeof telling)]);
+        break;
+    case 7: { /* a header in the middle, now and then right behind the first */
+        uint8_t header[] = { 1, 0, 2, 2, 2 };
+
+        insert(one_in(3) && fields > 1 ? starts[1] : field, header, sizeof header);
+        break;
+    }
+    case 8: /* another tag */
+        file.bytes[field] = telling[below(sizeof telling)];
+        break;
+    case 9: /* another length */
+        if (field + 2 < file.length) {
+            static const int by[] = { 1, 255, 5, 251, 128 };
+
+            if (one_in(6))
+                file.bytes[field + 1] = telling[below(sizeof telling)];
+            else
+                file.bytes[field + 2] = (uint8_t)(file.bytes[field + 2] + by[below(5)]);
+        }
+        break;
+    case 10: /* the first byte of the content: a position, or the high byte of a set */
+        if (field + 3 < file.length)
+            file.bytes[field + 3] = telling[below(sizeof telling)];
+        break;
+    default: /* a later byte of the content that is a position in an atom and in an equality */
+        if (field + 8 < file.length)
+            file.bytes[field + 8] = telling[below(sizeof telling)];
+    }
+}
+
+/* ---- what the sound files had in them ---- */
+
+static struct {
+    uint64_t calls, empty_clause, several_atoms, named_twice, no_positions, empty_set, full_set, at_limit;
+} had;
+
+/* Only for files that are not refused. */
+static void survey(void)
+{
+    size_t fields = find_fields();
+    uint32_t v = file.bytes[3], all = values_to(file.bytes[4]);
+    int empty_clause = 0, several = 0, twice = 0, no_positions = 0, empty = 0, full = 0;
+
+    for (size_t k = 1; k < fields; k++) {
+        const uint8_t *at = file.bytes + starts[k] + 3, *end = file.bytes + starts[k + 1];
+        int is_clause = file.bytes[starts[k]] == 2;
+        uint64_t named = 0;
+
+        if (is_clause && at == end)
+            empty_clause = 1;
+        if (!is_clause && end - at == 4)
+            no_positions = 1;
+        for (int first = 1; at < end; first = 0) {
+            if (is_clause || first) { /* a set: in an atom behind its position, in an equality first */
+                const uint8_t *s = at + is_clause;
+                uint32_t set = (uint32_t)s[0] << 24 | (uint32_t)s[1] << 16 | (uint32_t)s[2] << 8 | s[3];
+
+                empty |= set == 0;
+                full |= set == all;
+            }
+            if (is_clause || !first) {
+                if (named >> (*at - 1) & 1) {
+                    several |= is_clause;
+                    twice |= !is_clause;
+                }
+                named |= (uint64_t)1 << (*at - 1);
+            }
+            at += is_clause ? 5 : first ? 4 : 1;
+        }
+    }
+    had.calls++;
+    had.empty_clause += (uint64_t)empty_clause;
+    had.several_atoms += (uint64_t)several;
+    had.named_twice += (uint64_t)twice;
+    had.no_positions += (uint64_t)no_positions;
+    had.empty_set += (uint64_t)empty;
+    had.full_set += (uint64_t)full;
+    had.at_limit += v == 64 && file.bytes[4] == 32;
+}
+
+/* ---- the calls ---- */
+
+static const size_t answer_lens[] = { 0, 1, 63, 64, 65, 200 };
+static const uint64_t allowances[] = { 0, 1, 2, 3, 10, 1000000, 1000001 };
+
+enum { ANSWER_LENS = 6, ALLOWANCES = 7, PROBE = 1500, SHORT_FILE = 80 };
+
+/* How many calls may still run a search of more splits than PROBE, and how many were spared it. Only
+   short files may: a million splits of a long one take minutes under the emulator. */
+static uint64_t long_searches, long_run, spared;
+
+/* Whether the current file's search needs more than PROBE splits, by the yardstick. */
+static int is_long(void)
+{
+    struct outcome probe;
+    uint8_t area[AREA] = { 0 };
+    uint64_t splits_after_cut = yardstick_splits_after_cut, dead_after_cut = yardstick_dead_after_cut;
+
+    memcpy(input_end - file.length, file.bytes, file.length);
+    call(yardstick_plan, area, 64, PROBE, &probe);
+    /* This call is not one of those compared, so it does not count. */
+    yardstick_splits_after_cut = splits_after_cut;
+    yardstick_dead_after_cut = dead_after_cut;
+    return probe.number == 2;
+}
+
+/* Compares on the current file; where its search is long and enough long ones were run, with ten
+   splits in place of a million. */
+static struct outcome compare_within_reason(size_t answer_len, uint64_t allowance, int long_one)
+{
+    if (long_one && allowance == 1000000 && answer_len >= 64) {
+        if (long_run < long_searches && file.length <= SHORT_FILE) {
+            long_run++;
+        } else {
+            spared++;
+            allowance = 10;
+        }
+    }
+    return compare(answer_len, allowance);
+}
+
+/* All calls for the current file. */
+static void compare_file(uint64_t number)
+{
+    int long_one = is_long();
+    struct outcome outcome;
+    size_t answer_len;
+
+    if (number % 100 == 0) { /* every buffer length with every allowance */
+        for (size_t a = 0; a < ANSWER_LENS; a++)
+            for (size_t b = 0; b < ALLOWANCES; b++)
+                compare_within_reason(answer_lens[a], allowances[b], long_one);
+        return;
+    }
+    answer_len = one_in(20) ? answer_lens[below(3)] : answer_lens[3 + below(3)];
+    outcome = compare_within_reason(answer_len, one_in(2) ? 1000000 : allowances[below(ALLOWANCES)], long_one);
+    if (outcome.number <= 1 && outcome.splits > 0 && one_in(4)) {
+        /* exactly the splits that are needed, and one fewer */
+        compare(64, outcome.splits);
+        compare(64, outcome.splits - 1);
+    }
+}
+
+static void make_file(void)
+{
+    uint32_t kind = below(600);
+
+    if (kind < 2)
+        make_long();
+    else if (kind < 170)
+        make_small();
+    else if (kind < 240)
+        make_medium();
+    else if (kind < 350)
+        make_cut_first();
+    else if (kind < 440)
+        make_equalities();
+    else if (kind < 470)
+        make_threes();
+    else if (kind < 490)
+        make_workload();
+    else if (kind < 505)
+        make_climb();
+    else if (kind < 580)
+        make_limits();
+    else
+        make_bytes();
+    if (one_in(3))
+        shuffle();
+    if (one_in(4))
+        for (uint32_t left = 1 + below(3); left > 0; left--)
+            damage();
+}
+
+static void print_count(const char *what, uint64_t count)
+{
+    printf("    %-64s %llu\n", what, (unsigned long long)count);
+}
+
+int main(int argc, char **argv)
+{
+    static const char *const meanings[32] = {
+        [0] = "0 PLAN", [1] = "1 NONE", [2] = "2 UNDECIDED", [10] = "10 input too long",
+        [11] = "11 answer buffer too short", [12] = "12 allowance too large",
+        [13] = "13 bytes missing", [14] = "14 no header first", [15] = "15 a second header",
+        [16] = "16 unknown tag", [17] = "17 wrong length", [18] = "18 v or n out of range",
+        [19] = "19 position out of range", [20] = "20 value above n", [21] = "21 stalled",
+    };
+    uint64_t least = argc > 1 ? strtoull(argv[1], 0, 10) : 400000, files = 0;
+
+    setvbuf(stdout, 0, _IOLBF, 0);
+    if (argc > 2)
+        seed = strtoull(argv[2], 0, 10);
+    chance.state = seed;
+    long_searches = least < 100000 ? 1 : 4;
+    make_input_pages();
+    catch_crashes();
+    compare_examples();
+    while (calls < least) {
+        make_file();
+        compare_file(files++);
+    }
+    printf("agreement: %llu calls on %llu files made from seed %llu (sum %016llx), no difference\n",
+           (unsigned long long)calls, (unsigned long long)files, (unsigned long long)seed,
+           (unsigned long long)sum);
+    printf("  calls by reply:\n");
+    for (size_t k = 0; k < 32; k++)
+        if (meanings[k] || calls_by_number[k])
+            print_count(meanings[k] ? meanings[k] : "a number that 01 does not have", calls_by_number[k]);
+    printf("  of the calls that were not refused, with such a file:\n");
+    print_count("all", had.calls);
+    print_count("an empty clause", had.empty_clause);
+    print_count("several atoms on one position in a clause", had.several_atoms);
+    print_count("a position named twice in an equality", had.named_twice);
+    print_count("an equality that names no position", had.no_positions);
+    print_count("an empty set", had.empty_set);
+    print_count("a full set", had.full_set);
+    print_count("64 positions and 32 values", had.at_limit);
+    printf("  in the searches, by the yardstick:\n");
+    print_count("splits where the smallest values were cut away in the same box", yardstick_splits_after_cut);
+    print_count("boxes found dead after a room of them was cut", yardstick_dead_after_cut);
+    print_count("most rounds of shrinking in one box", yardstick_most_rounds);
+    print_count("most splits in one call", most_splits);
+    print_count("searches of more than 1,500 splits with 1,000,000 allowed", long_run);
+    print_count("such searches with 10 allowed in place of 1,000,000", spared);
+    return 0;
+}

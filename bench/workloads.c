@@ -1,0 +1,409 @@
+/* Rule files made by generators: see workloads.h. */
+#include "workloads.h"
+
+/* ---- pseudo-random numbers ---- */
+
+uint64_t random_next(struct random *random)
+{
+    /* splitmix64: a counter with a large odd step, whose bits are then mixed. */
+    uint64_t x = random->state += 0x9e3779b97f4a7c15u;
+
+    x = (x ^ x >> 30) * 0xbf58476d1ce4e5b9u;
+    x = (x ^ x >> 27) * 0x94d049bb133111ebu;
+    return x ^ x >> 31;
+}
+
+uint32_t random_below(struct random *random, uint32_t end)
+{
+    return (uint32_t)((random_next(random) >> 32) * end >> 32);
+}
+
+int random_chance(struct random *random, uint32_t in, uint32_t of)
+{
+    return random_below(random, of) < in;
+}
+
+/* ---- writing a rule file ---- */
+
+uint32_t values_to(uint32_t b)
+{
+    return b >= 32 ? UINT32_MAX : ((uint32_t)1 << b) - 1;
+}
+
+uint32_t value_alone(uint32_t x)
+{
+    return (uint32_t)1 << (x - 1);
+}
+
+void write_byte(struct rule_file *file, uint32_t byte)
+{
+    if (file->length < sizeof file->bytes)
+        file->bytes[file->length] = (uint8_t)byte;
+    file->length++;
+}
+
+static void write_set(struct rule_file *file, uint32_t set)
+{
+    for (int shift = 24; shift >= 0; shift -= 8)
+        write_byte(file, set >> shift & 255);
+}
+
+/* Writes the length of the field that is open, now that it has grown. */
+static void write_length(struct rule_file *file)
+{
+    size_t length = file->length - file->open - 3;
+
+    if (file->length <= sizeof file->bytes) {
+        file->bytes[file->open + 1] = (uint8_t)(length >> 8);
+        file->bytes[file->open + 2] = (uint8_t)(length & 255);
+    }
+}
+
+static void write_head(struct rule_file *file, uint32_t tag)
+{
+    file->open = file->length;
+    write_byte(file, tag);
+    write_byte(file, 0);
+    write_byte(file, 0);
+}
+
+void write_header(struct rule_file *file, uint32_t v, uint32_t n)
+{
+    file->length = 0;
+    write_head(file, 1);
+    write_byte(file, v);
+    write_byte(file, n);
+    write_length(file);
+}
+
+void write_clause(struct rule_file *file)
+{
+    write_head(file, 2);
+}
+
+void write_atom(struct rule_file *file, uint32_t position, uint32_t set)
+{
+    write_byte(file, position);
+    write_set(file, set);
+    write_length(file);
+}
+
+void write_equality(struct rule_file *file, uint32_t set)
+{
+    write_head(file, 3);
+    write_set(file, set);
+    write_length(file);
+}
+
+void write_named(struct rule_file *file, uint32_t position)
+{
+    write_byte(file, position);
+    write_length(file);
+}
+
+/* ---- queens ---- */
+
+/* Whether a queen attacks the field that lies `down` rows below it (at least 1) and `aside` columns
+   to its right, or to its left where that is negative. */
+static int attacks(int kind, int size, int down, int aside)
+{
+    int far = aside < 0 ? -aside : aside;
+
+    if (aside == 0)
+        return 1;
+    if (kind == QUEENS_TORUS)
+        return (down - aside) % size == 0 || (down + aside) % size == 0;
+    if (far == down)
+        return 1;
+    return kind == QUEENS_SUPER && ((down == 1 && far == 2) || (down == 2 && far == 1));
+}
+
+/* One clause for each pair of rows and each column: the upper row does not take this column, or the
+   lower row takes a column that is not attacked from there. */
+void make_queens(struct rule_file *file, int size, int kind)
+{
+    uint32_t all = values_to((uint32_t)size);
+
+    write_header(file, (uint32_t)size, (uint32_t)size);
+    for (int upper = 1; upper <= size; upper++)
+        for (int lower = upper + 1; lower <= size; lower++)
+            for (int column = 1; column <= size; column++) {
+                uint32_t open = 0;
+
+                for (int other = 1; other <= size; other++)
+                    if (!attacks(kind, size, lower - upper, other - column))
+                        open |= value_alone((uint32_t)other);
+                write_clause(file);
+                write_atom(file, (uint32_t)upper, all & ~value_alone((uint32_t)column));
+                write_atom(file, (uint32_t)lower, open);
+            }
+}
+
+/* ---- sudoku ---- */
+
+/* A box has 2 rows, and columns enough to have `size` cells. Each row, column and box is an equality
+   with {1..size}. The cells given are taken at random from one solution, one clause for each. */
+void make_sudoku(struct rule_file *file, int size, int givens)
+{
+    const int box_rows = 2, box_columns = size / 2;
+    uint32_t all = values_to((uint32_t)size);
+    struct random random = { 8 };
+    int given[64] = { 0 };
+
+    write_header(file, (uint32_t)(size * size), (uint32_t)size);
+    for (int row = 0; row < size; row++) {
+        write_equality(file, all);
+        for (int column = 0; column < size; column++)
+            write_named(file, (uint32_t)(row * size + column + 1));
+    }
+    for (int column = 0; column < size; column++) {
+        write_equality(file, all);
+        for (int row = 0; row < size; row++)
+            write_named(file, (uint32_t)(row * size + column + 1));
+    }
+    for (int box = 0; box < size; box++) {
+        int top = box / box_rows * box_rows, left = box % box_rows * box_columns;
+
+        write_equality(file, all);
+        for (int cell = 0; cell < size; cell++) {
+            int row = top + cell / box_columns, column = left + cell % box_columns;
+
+            write_named(file, (uint32_t)(row * size + column + 1));
+        }
+    }
+    for (int left = givens; left > 0;) {
+        int cell = (int)random_below(&random, (uint32_t)(size * size));
+        int row = cell / size, column = cell % size;
+
+        if (given[cell])
+            continue;
+        given[cell] = 1;
+        left--;
+        write_clause(file);
+        write_atom(file, (uint32_t)cell + 1,
+                   value_alone((uint32_t)((box_columns * (row % box_rows) + row / box_rows + column) % size + 1)));
+    }
+}
+
+/* ---- ladder racks: all rules are clauses, and in each at most one set is not a set {1..b} ---- */
+
+enum { RACK_POSITIONS = 64, RACK_VALUES = 32 };
+
+/* "If position p takes `least` or more, then position q takes `then` or more." */
+static void write_rung(struct rule_file *file, uint32_t p, uint32_t least, uint32_t q, uint32_t then)
+{
+    write_clause(file);
+    write_atom(file, p, values_to(least - 1));
+    write_atom(file, q, ~values_to(then - 1));
+}
+
+/* Position 1 starts at 2. Each position drives the next one up to its own value, and the last one
+   drives position 1 up by one more, until all are at 32. With an open end that is the plan; else the
+   first and the last may not both take 32, and there is none. Where the fields run against the climb,
+   a round cuts only one room, and shrinking takes nearly as many rounds as it can take at all. */
+void make_ladder_climb(struct rule_file *file, int against, int open_end)
+{
+    write_header(file, RACK_POSITIONS, RACK_VALUES);
+    write_clause(file);
+    write_atom(file, 1, ~values_to(1));
+    for (uint32_t least = 2; least < RACK_VALUES; least++)
+        write_rung(file, RACK_POSITIONS, least, 1, least + 1);
+    for (uint32_t step = 1; step < RACK_POSITIONS; step++) {
+        uint32_t p = against ? RACK_POSITIONS - step : step;
+
+        for (uint32_t k = 2; k <= RACK_VALUES; k++) {
+            uint32_t least = against ? RACK_VALUES + 2 - k : k;
+
+            write_rung(file, p, least, p + 1, least);
+        }
+    }
+    if (!open_end) {
+        write_clause(file);
+        write_atom(file, RACK_POSITIONS, values_to(RACK_VALUES - 1));
+        write_atom(file, 1, values_to(RACK_VALUES - 1));
+    }
+}
+
+/* Clauses of one to three sets {1..b} and one set at random, which in every fourth clause stands alone
+   and then has the values from some value on. */
+void make_ladder_random(struct rule_file *file, int clauses, int seed)
+{
+    struct random random = { (uint64_t)seed };
+
+    write_header(file, RACK_POSITIONS, RACK_VALUES);
+    for (int k = 0; k < clauses; k++) {
+        int alone = random_chance(&random, 1, 4);
+        uint32_t low = alone ? 0 : 1 + random_below(&random, 3), position, set;
+
+        write_clause(file);
+        for (; low > 0; low--) {
+            position = 1 + random_below(&random, RACK_POSITIONS);
+            set = values_to(random_below(&random, 24));
+            write_atom(file, position, set);
+        }
+        position = 1 + random_below(&random, RACK_POSITIONS);
+        set = alone ? ~values_to(random_below(&random, 24)) : (uint32_t)random_next(&random) | ~values_to(28);
+        write_atom(file, position, set);
+    }
+}
+
+/* ---- clauses at random ---- */
+
+/* Adds a clause of three different positions, each with `size` of the values 1 to n. */
+static void write_random_clause(struct rule_file *file, struct random *random, uint32_t v, uint32_t n, uint32_t size)
+{
+    uint64_t named = 0;
+
+    write_clause(file);
+    for (int k = 0; k < 3;) {
+        uint32_t position = 1 + random_below(random, v), set = 0;
+
+        if (named >> (position - 1) & 1)
+            continue;
+        named |= (uint64_t)1 << (position - 1);
+        for (uint32_t left = size; left > 0;) {
+            uint32_t value = value_alone(1 + random_below(random, n));
+
+            if (set & value)
+                continue;
+            set |= value;
+            left--;
+        }
+        write_atom(file, position, set);
+        k++;
+    }
+}
+
+/* 64 positions of two values, sets of one: plans become rare near 4.26 clauses a position. */
+void make_random_two(struct rule_file *file, int clauses, int seed)
+{
+    struct random random = { (uint64_t)seed };
+
+    write_header(file, 64, 2);
+    for (int k = 0; k < clauses; k++)
+        write_random_clause(file, &random, 64, 2, 1);
+}
+
+/* 24 positions of four values, sets of two: plans become rare near ten clauses a position. */
+void make_random_four(struct rule_file *file, int clauses, int seed)
+{
+    struct random random = { (uint64_t)seed };
+
+    write_header(file, 24, 4);
+    for (int k = 0; k < clauses; k++)
+        write_random_clause(file, &random, 24, 4, 2);
+}
+
+/* ---- the longest file ---- */
+
+/* One clause of 6,552 atoms, 102 or 103 for each position, which together say "32"; or clauses of
+   three positions with 24 of 32 values, and three equalities of no positions with the empty set, which
+   are always met and make the length come out. */
+void make_longest(struct rule_file *file, int one_clause, int seed)
+{
+    struct random random = { (uint64_t)seed };
+
+    write_header(file, 64, 32);
+    if (one_clause) {
+        write_clause(file);
+        for (uint32_t k = 0; k < 6552; k++)
+            write_atom(file, 1 + k % 64, k < 64 ? value_alone(32) : 0);
+        return;
+    }
+    for (int k = 0; k < 3; k++)
+        write_equality(file, 0);
+    for (int k = 0; k < 1819; k++)
+        write_random_clause(file, &random, 64, 32, 24);
+}
+
+/* ---- the deep search ---- */
+
+/* For each position p but the last: [p{32} q{1}] and [p{32} q{2}], where q is the last; then [q{1,2}].
+   Only value 32 of p is left to q's choice, and the search finds this one value at a time. */
+void make_deep(struct rule_file *file, int positions, int unused)
+{
+    uint32_t q = (uint32_t)positions + 1;
+
+    (void)unused;
+    write_header(file, q, 32);
+    for (uint32_t p = 1; p < q; p++)
+        for (uint32_t value = 1; value <= 2; value++) {
+            write_clause(file);
+            write_atom(file, p, value_alone(32));
+            write_atom(file, q, value_alone(value));
+        }
+    write_clause(file);
+    write_atom(file, q, values_to(2));
+}
+
+/* ---- the table ---- */
+
+/* "At random, 64 x 2, 265, no. 1" has 64 positions of two values, 265 clauses and the seed 1. */
+const struct workload workloads[] = {
+    { "queens 8", make_queens, 8, QUEENS_PLAIN, LARGEST_ALLOWANCE, 1 },
+    { "queens 9", make_queens, 9, QUEENS_PLAIN, LARGEST_ALLOWANCE, 0 },
+    { "queens 10", make_queens, 10, QUEENS_PLAIN, LARGEST_ALLOWANCE, 1 },
+    { "queens 11", make_queens, 11, QUEENS_PLAIN, LARGEST_ALLOWANCE, 0 },
+    { "queens 12", make_queens, 12, QUEENS_PLAIN, LARGEST_ALLOWANCE, 1 },
+    { "queens 13", make_queens, 13, QUEENS_PLAIN, LARGEST_ALLOWANCE, 0 },
+    { "queens 14", make_queens, 14, QUEENS_PLAIN, LARGEST_ALLOWANCE, 0 },
+    { "queens 15", make_queens, 15, QUEENS_PLAIN, LARGEST_ALLOWANCE, 1 },
+    { "queens 16", make_queens, 16, QUEENS_PLAIN, LARGEST_ALLOWANCE, 0 },
+    { "queens 17", make_queens, 17, QUEENS_PLAIN, LARGEST_ALLOWANCE, 0 },
+    { "queens 18", make_queens, 18, QUEENS_PLAIN, LARGEST_ALLOWANCE, 0 },
+    { "super queens 8", make_queens, 8, QUEENS_SUPER, LARGEST_ALLOWANCE, 1 },
+    { "super queens 9", make_queens, 9, QUEENS_SUPER, LARGEST_ALLOWANCE, 0 },
+    { "super queens 10", make_queens, 10, QUEENS_SUPER, LARGEST_ALLOWANCE, 1 },
+    { "super queens 11", make_queens, 11, QUEENS_SUPER, LARGEST_ALLOWANCE, 0 },
+    { "super queens 12", make_queens, 12, QUEENS_SUPER, LARGEST_ALLOWANCE, 1 },
+    { "super queens 13", make_queens, 13, QUEENS_SUPER, LARGEST_ALLOWANCE, 0 },
+    { "super queens 14", make_queens, 14, QUEENS_SUPER, LARGEST_ALLOWANCE, 0 },
+    { "super queens 15", make_queens, 15, QUEENS_SUPER, LARGEST_ALLOWANCE, 1 },
+    { "super queens 16", make_queens, 16, QUEENS_SUPER, LARGEST_ALLOWANCE, 0 },
+    { "super queens 17", make_queens, 17, QUEENS_SUPER, LARGEST_ALLOWANCE, 0 },
+    { "torus queens 6", make_queens, 6, QUEENS_TORUS, LARGEST_ALLOWANCE, 1 },
+    { "torus queens 8", make_queens, 8, QUEENS_TORUS, LARGEST_ALLOWANCE, 1 },
+    { "torus queens 9", make_queens, 9, QUEENS_TORUS, LARGEST_ALLOWANCE, 0 },
+    { "torus queens 10", make_queens, 10, QUEENS_TORUS, LARGEST_ALLOWANCE, 1 },
+    { "torus queens 11", make_queens, 11, QUEENS_TORUS, LARGEST_ALLOWANCE, 1 },
+    { "torus queens 12", make_queens, 12, QUEENS_TORUS, LARGEST_ALLOWANCE, 0 },
+    { "torus queens 13", make_queens, 13, QUEENS_TORUS, LARGEST_ALLOWANCE, 1 },
+    { "torus queens 14", make_queens, 14, QUEENS_TORUS, LARGEST_ALLOWANCE, 0 },
+    { "torus queens 15", make_queens, 15, QUEENS_TORUS, LARGEST_ALLOWANCE, 0 },
+    { "torus queens 16", make_queens, 16, QUEENS_TORUS, LARGEST_ALLOWANCE, 0 },
+    { "torus queens 17", make_queens, 17, QUEENS_TORUS, LARGEST_ALLOWANCE, 0 },
+
+    { "sudoku 4x4, empty", make_sudoku, 4, 0, LARGEST_ALLOWANCE, 1 },
+    { "sudoku 4x4, 4 given", make_sudoku, 4, 4, LARGEST_ALLOWANCE, 1 },
+    { "sudoku 6x6, empty", make_sudoku, 6, 0, LARGEST_ALLOWANCE, 0 },
+    { "sudoku 6x6, 6 given", make_sudoku, 6, 6, LARGEST_ALLOWANCE, 1 },
+    { "sudoku 6x6, 12 given", make_sudoku, 6, 12, LARGEST_ALLOWANCE, 1 },
+    { "sudoku 8x8, empty", make_sudoku, 8, 0, LARGEST_ALLOWANCE, 0 },
+    { "sudoku 8x8, empty, 10,000 splits", make_sudoku, 8, 0, 10000, 0 },
+    { "sudoku 8x8, 12 given", make_sudoku, 8, 12, LARGEST_ALLOWANCE, 0 },
+    { "sudoku 8x8, 20 given", make_sudoku, 8, 20, LARGEST_ALLOWANCE, 1 },
+    { "sudoku 8x8, 32 given", make_sudoku, 8, 32, LARGEST_ALLOWANCE, 1 },
+
+    { "ladder, in file order, plan", make_ladder_climb, 0, 1, LARGEST_ALLOWANCE, 1 },
+    { "ladder, in file order, none", make_ladder_climb, 0, 0, LARGEST_ALLOWANCE, 1 },
+    { "ladder, against it, plan", make_ladder_climb, 1, 1, LARGEST_ALLOWANCE, 0 },
+    { "ladder, against it, none", make_ladder_climb, 1, 0, LARGEST_ALLOWANCE, 0 },
+    { "ladder, 250 clauses at random", make_ladder_random, 250, 1, LARGEST_ALLOWANCE, 1 },
+    { "ladder, 550 clauses at random", make_ladder_random, 550, 1, LARGEST_ALLOWANCE, 1 },
+    { "ladder, 2,000 clauses at random", make_ladder_random, 2000, 1, LARGEST_ALLOWANCE, 1 },
+
+    { "at random, 64 x 2, 250, no. 1", make_random_two, 250, 1, LARGEST_ALLOWANCE, 1 },
+    { "at random, 64 x 2, 265, no. 1", make_random_two, 265, 1, LARGEST_ALLOWANCE, 0 },
+    { "at random, 64 x 2, 265, no. 2", make_random_two, 265, 2, LARGEST_ALLOWANCE, 0 },
+    { "at random, 64 x 2, 280, no. 3", make_random_two, 280, 3, LARGEST_ALLOWANCE, 0 },
+    { "at random, 24 x 4, 210, no. 3", make_random_four, 210, 3, LARGEST_ALLOWANCE, 1 },
+    { "at random, 24 x 4, 225, no. 2", make_random_four, 225, 2, LARGEST_ALLOWANCE, 0 },
+    { "at random, 24 x 4, 225, no. 4", make_random_four, 225, 4, LARGEST_ALLOWANCE, 0 },
+    { "at random, 24 x 4, 240, no. 3", make_random_four, 240, 3, LARGEST_ALLOWANCE, 1 },
+
+    { "32,768 bytes, 1,819 clauses", make_longest, 0, 1, LARGEST_ALLOWANCE, 1 },
+    { "32,768 bytes, one clause", make_longest, 1, 0, LARGEST_ALLOWANCE, 1 },
+    { "deep, 1,953 levels", make_deep, 63, 0, LARGEST_ALLOWANCE, 1 },
+};
+
+const size_t workload_count = sizeof workloads / sizeof *workloads;

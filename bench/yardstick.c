@@ -1,0 +1,409 @@
+/* The yardstick: see yardstick.h. The section names in the comments are those of document 01.
+
+   The rules are parsed once, into arrays: a clause into its positions, each with the union of that
+   position's sets; an equality into M and its positions, each once. The search then never looks at the
+   file again. Apart from that it goes by 01's steps as they are written. */
+#include "yardstick.h"
+
+enum {
+    POSITIONS = 64,
+    VALUES = 32,
+    LONGEST_INPUT = 32768,
+    SHORTEST_ANSWER = 64,
+    LARGEST_ALLOWANCE = 1000000,
+    HEAD = 3,  /* bytes of a tag and a length */
+    ATOM = 5   /* bytes of an atom */
+};
+
+/* the replies of 01's table */
+enum {
+    PLAN = 0,
+    NONE = 1,
+    UNDECIDED = 2,
+    INPUT_TOO_LONG = 10,
+    ANSWER_TOO_SHORT = 11,
+    ALLOWANCE_TOO_LARGE = 12,
+    BYTES_MISSING = 13,
+    NO_HEADER = 14,
+    SECOND_HEADER = 15,
+    UNKNOWN_TAG = 16,
+    WRONG_LENGTH = 17,
+    WRONG_LIMITS = 18,
+    WRONG_POSITION = 19,
+    WRONG_SET = 20,
+    STALLED = 21
+};
+
+/* ---- the rules, parsed ---- */
+
+/* a position of a rule, counted from 0; in a clause, with the union of its sets there */
+struct part {
+    uint32_t position;
+    uint32_t set;
+};
+
+struct rule {
+    int is_equality;
+    uint32_t set;   /* M of an equality */
+    uint32_t first; /* its parts are parts[first] up to, not including, parts[end] */
+    uint32_t end;
+};
+
+/* The shortest field has 3 bytes, and each part has at least a byte of its own in the file. */
+static struct rule rules[LONGEST_INPUT / HEAD];
+static struct part parts[LONGEST_INPUT];
+static uint32_t rule_count, part_count;
+static uint32_t v, n;
+
+static uint32_t four_bytes(const uint8_t *at)
+{
+    return (uint32_t)at[0] << 24 | (uint32_t)at[1] << 16 | (uint32_t)at[2] << 8 | (uint32_t)at[3];
+}
+
+/* the set {1..n} */
+static uint32_t full_set(void)
+{
+    return n == VALUES ? UINT32_MAX : ((uint32_t)1 << n) - 1;
+}
+
+/* Parses a clause's bytes to a new rule. Answers 0, or the number of its first fault. */
+static int parse_clause(const uint8_t *content, size_t length)
+{
+    struct rule *rule = &rules[rule_count++];
+    uint32_t part_of[POSITIONS]; /* of each position, its part in this clause, counted from 1 */
+
+    for (uint32_t i = 0; i < v; i++)
+        part_of[i] = 0;
+    rule->is_equality = 0;
+    rule->set = 0;
+    rule->first = part_count;
+    for (size_t at = 0; at < length; at += ATOM) {
+        uint32_t position = content[at];
+        uint32_t set = four_bytes(content + at + 1);
+
+        if (position == 0 || position > v)
+            return WRONG_POSITION;
+        if (set & ~full_set())
+            return WRONG_SET;
+        position--;
+        if (part_of[position]) {
+            parts[part_of[position] - 1].set |= set;
+        } else {
+            parts[part_count].position = position;
+            parts[part_count].set = set;
+            part_of[position] = ++part_count;
+        }
+    }
+    rule->end = part_count;
+    return 0;
+}
+
+/* Parses an equality's bytes to a new rule. Answers 0, or the number of its first fault. */
+static int parse_equality(const uint8_t *content, size_t length)
+{
+    struct rule *rule = &rules[rule_count++];
+    uint64_t named = 0; /* bit i: position i, counted from 0, was named */
+
+    rule->is_equality = 1;
+    rule->set = four_bytes(content);
+    rule->first = part_count;
+    if (rule->set & ~full_set())
+        return WRONG_SET;
+    for (size_t at = 4; at < length; at++) {
+        uint32_t position = content[at];
+
+        if (position == 0 || position > v)
+            return WRONG_POSITION;
+        position--;
+        if (named >> position & 1)
+            continue;
+        named |= (uint64_t)1 << position;
+        parts[part_count].position = position;
+        parts[part_count].set = rule->set;
+        part_count++;
+    }
+    rule->end = part_count;
+    return 0;
+}
+
+/* Parses the whole file. Answers 0, or the number of the first fault, with its field at *place. */
+static int parse(const uint8_t *input, size_t input_len, uint64_t *place)
+{
+    rule_count = 0;
+    part_count = 0;
+    *place = 0;
+    if (input_len == 0)
+        return NO_HEADER;
+    for (size_t at = 0; at < input_len;) {
+        size_t left = input_len - at;
+        const uint8_t *content = input + at + HEAD;
+        size_t length;
+        int tag, length_is_right, fault = 0;
+
+        *place = at;
+        if (left < HEAD)
+            return BYTES_MISSING;
+        tag = input[at];
+        if (at == 0 && tag != 1)
+            return NO_HEADER;
+        if (at != 0 && tag == 1)
+            return SECOND_HEADER;
+        if (tag < 1 || tag > 3)
+            return UNKNOWN_TAG;
+        length = (size_t)input[at + 1] << 8 | input[at + 2];
+        length_is_right = tag == 1   ? length == 2
+                          : tag == 2 ? length % ATOM == 0
+                                     : length >= 4 && length <= 4 + POSITIONS;
+        if (!length_is_right)
+            return WRONG_LENGTH;
+        if (left - HEAD < length)
+            return BYTES_MISSING;
+        if (tag == 1) {
+            v = content[0];
+            n = content[1];
+            if (v < 1 || v > POSITIONS || n < 1 || n > VALUES)
+                return WRONG_LIMITS;
+        } else if (tag == 2) {
+            fault = parse_clause(content, length);
+        } else {
+            fault = parse_equality(content, length);
+        }
+        if (fault)
+            return fault;
+        at += HEAD + length;
+    }
+    *place = 0;
+    return 0;
+}
+
+/* ---- the search, step for step ---- */
+
+struct box {
+    uint32_t rooms[POSITIONS];
+};
+
+static uint64_t allowed, split_count, dead_end_count;
+static uint8_t plan[POSITIONS];
+
+#ifdef YARDSTICK_COUNTS
+uint64_t yardstick_splits_after_cut, yardstick_dead_after_cut, yardstick_most_rounds;
+#endif
+
+/* The smallest value of a room that is not empty, as a set of its own. */
+static uint32_t smallest_alone(uint32_t room)
+{
+    return room & -room;
+}
+
+/* What became of a box at one rule. */
+enum look { UNCHANGED, CUT, DEAD };
+
+/* Step 1 at a clause: no live position is dead; a single one has its room cut down to the union. */
+static enum look look_at_clause(const struct rule *rule, struct box *box)
+{
+    const struct part *live = 0;
+    uint32_t *room;
+
+    for (const struct part *part = parts + rule->first; part < parts + rule->end; part++) {
+        if (box->rooms[part->position] & part->set) {
+            if (live)
+                return UNCHANGED; /* a second live position: nothing to cut */
+            live = part;
+        }
+    }
+    if (!live)
+        return DEAD;
+    room = &box->rooms[live->position];
+    if (!(*room & ~live->set))
+        return UNCHANGED;
+    *room &= live->set;
+    return CUT;
+}
+
+/* Step 1 at an equality: for each position "it is in M", then for each value of M, rising, "one of
+   the positions is in that value alone". */
+static enum look look_at_equality(const struct rule *rule, struct box *box)
+{
+    const struct part *from = parts + rule->first, *end = parts + rule->end;
+    enum look result = UNCHANGED;
+
+    for (const struct part *part = from; part < end; part++) {
+        uint32_t *room = &box->rooms[part->position];
+
+        if (!(*room & rule->set))
+            return DEAD;
+        if (*room & ~rule->set) {
+            *room &= rule->set;
+            result = CUT;
+        }
+    }
+    for (uint32_t left = rule->set; left; left &= left - 1) {
+        uint32_t value = smallest_alone(left);
+        uint32_t *live = 0;
+        int several = 0;
+
+        for (const struct part *part = from; part < end; part++) {
+            uint32_t *room = &box->rooms[part->position];
+
+            if (*room & value) {
+                if (live) {
+                    several = 1;
+                    break;
+                }
+                live = room;
+            }
+        }
+        if (!live)
+            return DEAD;
+        if (!several && *live != value) {
+            *live = value;
+            result = CUT;
+        }
+    }
+    return result;
+}
+
+/* Step 1: rounds over all fields in file order, each room cut at once, until a round changes nothing.
+   Answers whether the box is alive. */
+static int shrink(struct box *box)
+{
+    int changed;
+#ifdef YARDSTICK_COUNTS
+    uint64_t rounds = 0;
+    int cut = 0;
+#endif
+
+    do {
+        changed = 0;
+#ifdef YARDSTICK_COUNTS
+        if (++rounds > yardstick_most_rounds)
+            yardstick_most_rounds = rounds;
+#endif
+        for (const struct rule *rule = rules; rule < rules + rule_count; rule++) {
+            enum look look = rule->is_equality ? look_at_equality(rule, box) : look_at_clause(rule, box);
+
+            if (look == DEAD) {
+#ifdef YARDSTICK_COUNTS
+                yardstick_dead_after_cut += cut || changed;
+#endif
+                return 0;
+            }
+            if (look == CUT)
+                changed = 1;
+        }
+#ifdef YARDSTICK_COUNTS
+        cut |= changed;
+#endif
+    } while (changed);
+    return 1;
+}
+
+/* Step 2 at a clause: some position's room lies inside its union. */
+static int clause_settled(const struct rule *rule, const struct box *box)
+{
+    for (const struct part *part = parts + rule->first; part < parts + rule->end; part++)
+        if (!(box->rooms[part->position] & ~part->set))
+            return 1;
+    return 0;
+}
+
+/* Step 2 at an equality: every room lies inside M, and each value of M is alone in some room. */
+static int equality_settled(const struct rule *rule, const struct box *box)
+{
+    uint32_t alone = 0;
+
+    for (const struct part *part = parts + rule->first; part < parts + rule->end; part++) {
+        uint32_t room = box->rooms[part->position];
+
+        if (room & ~rule->set)
+            return 0;
+        if (room == smallest_alone(room))
+            alone |= room;
+    }
+    return alone == rule->set;
+}
+
+/* Step 2. */
+static int settled(const struct box *box)
+{
+    for (const struct rule *rule = rules; rule < rules + rule_count; rule++)
+        if (!(rule->is_equality ? equality_settled(rule, box) : clause_settled(rule, box)))
+            return 0;
+    return 1;
+}
+
+/* Steps 1 to 4 for a box. Answers PLAN (with the values in `plan`), NONE, UNDECIDED or STALLED. */
+static int search(struct box box)
+{
+    struct box first_half;
+    uint32_t split = 0;
+    int answer;
+#ifdef YARDSTICK_COUNTS
+    struct box before = box;
+#endif
+
+    if (!shrink(&box)) {
+        dead_end_count++;
+        return NONE;
+    }
+    if (settled(&box)) {
+        for (uint32_t i = 0; i < v; i++)
+            plan[i] = (uint8_t)(1 + __builtin_ctz(box.rooms[i]));
+        return PLAN;
+    }
+    while (split < v && box.rooms[split] == smallest_alone(box.rooms[split]))
+        split++;
+    if (split == v)
+        return STALLED;
+    if (split_count == allowed)
+        return UNDECIDED;
+    split_count++;
+#ifdef YARDSTICK_COUNTS
+    if (smallest_alone(before.rooms[split]) != smallest_alone(box.rooms[split]))
+        yardstick_splits_after_cut++;
+#endif
+    first_half = box;
+    first_half.rooms[split] = smallest_alone(box.rooms[split]);
+    answer = search(first_half);
+    if (answer != NONE)
+        return answer;
+    box.rooms[split] &= ~smallest_alone(box.rooms[split]);
+    return search(box);
+}
+
+void yardstick_plan(const uint8_t *input, size_t input_len, uint8_t *answer, size_t answer_len,
+                    uint64_t allowance, uint64_t *number, uint64_t *place, uint64_t *splits,
+                    uint64_t *dead_ends)
+{
+    struct box start;
+
+    *place = 0;
+    *splits = 0;
+    *dead_ends = 0;
+    if (input_len > LONGEST_INPUT) {
+        *number = INPUT_TOO_LONG;
+        return;
+    }
+    if (answer_len < SHORTEST_ANSWER) {
+        *number = ANSWER_TOO_SHORT;
+        return;
+    }
+    if (allowance > LARGEST_ALLOWANCE) {
+        *number = ALLOWANCE_TOO_LARGE;
+        return;
+    }
+    *number = (uint64_t)parse(input, input_len, place);
+    if (*number != 0)
+        return;
+    allowed = allowance;
+    split_count = 0;
+    dead_end_count = 0;
+    for (uint32_t i = 0; i < POSITIONS; i++)
+        start.rooms[i] = i < v ? full_set() : 0;
+    *number = (uint64_t)search(start);
+    *splits = split_count;
+    *dead_ends = dead_end_count;
+    if (*number == PLAN)
+        for (uint32_t i = 0; i < v; i++)
+            answer[i] = plan[i];
+}
