@@ -13,10 +13,8 @@ use Rattle.rules.specs.Rules.{Rule, clause}
 use Rattle.rules.specs.Clauses.{clausesOf}
 use Rattle.rules.specs.Reading.{headOf, atomsOf, ruleOf, ruleAt, fieldFault}
 use Rattle.rules.proofs.ByteLaws.{rest-part}
-use Rattle.rules.proofs.ListLaws.{every-map}
 use Rattle.steps.specs.Shrinking.{Look, dead, alive, ifAlive, lookClause, lookClauses, lookRule}
-use Rattle.boxes.specs.United.{unitedSets, lookSets, AtomsFit, PositionsFit, Looked}
-use Rattle.boxes.proofs.UnitedLaws.{look-sets-clause}
+use Rattle.boxes.specs.United.{AtomsFit, Atoms, PositionsFit, Looked}
 use Rattle.boxes.proofs.InputLaws.{field-there, rule-here, no-header-here, no-unknown-here, clause-here, equality-here}
 
 -- ---- a look at a rule that is a clause
@@ -29,15 +27,6 @@ once (alive box) = refl
 rule-clause : (place : ℕ) (atoms : List Atom) (box : List ℕ) → lookRule place (clause atoms) box ≡ lookClause place atoms box
 unfolding lookRule clausesOf lookClauses
 rule-clause place atoms box = once (lookClause place atoms box)
-
--- a look by the united sets of a clause is a look at the rule that the clause is
-look-sets-rule : (place len v : ℕ) (bytes rooms after : List ℕ) (r : Bool) → v ≤ 64
-    → Looked (lookSets (unitedSets (atomsOf (len / 5) bytes)) (take v rooms)) r after (drop v rooms) → Looked (lookRule place (ruleOf Clause len bytes) (take v rooms)) r after (drop v rooms)
-unfolding ruleOf
-look-sets-rule place len v bytes rooms after r small h =
-    let atoms = atomsOf (len / 5) bytes in
-    subst (λ (l : Look). Looked l r after (drop v rooms)) (sym (rule-clause place atoms (take v rooms)))
-    (look-sets-clause place atoms (take v rooms) after (drop v rooms) r (omega (arith, length-take v rooms)) h)
 
 -- ---- the field at a place, by its head and the bytes behind it
 
@@ -68,17 +57,18 @@ module _ {v at : ℕ} {s : List ℕ} {head : Head} (headed : Headed v at s head)
   pub no-unknown-there : head .kind ≡ Unknown → ⊥
   no-unknown-there e = no-unknown-here v (headed .n) at s (headed .there) (headed .none) (kind-known ∙ e)
 
-  -- the atoms of a clause lie within its content, each on a position from 1 to 64
-  pub clause-there : v ≤ 64 → head .kind ≡ Clause
-      → (head .length / 5 * 5 ≤ length (partFrom (at + 3) s)) × AtomsFit (atomsOf (head .length / 5) (partFrom (at + 3) s))
+  -- a clause is whole atoms, each on a position from 1 to v
+  pub clause-there : v ≤ 64 → head .kind ≡ Clause → Atoms v (head .length) (partFrom (at + 3) s)
   clause-there small e =
       let found = clause-here v (headed .n) at s (headed .there) (headed .none) (kind-known ∙ e) in
-      let atoms = every-map (λ a. (1 ≤ a .position) × (a .position ≤ v)) (λ a. (1 ≤ a .position) × (a .position ≤ 64))
-      (atomsOf (headOf (drop at s) .length / 5) (drop (at + 3) s)) (λ a h. omega arith) (found .1) in (
-        omega (arith, content-there),
-        subst (λ (h : Head). AtomsFit (atomsOf (h .length / 5) (partFrom (at + 3) s))) (sym (headed .known))
-            (subst (λ (bytes : List ℕ). AtomsFit (atomsOf (headOf (drop at s) .length / 5) bytes)) (sym (rest-part (at + 3) s)) atoms),
-      )
+      record {
+        whole = subst (λ (h : Head). h .length / 5 * 5 ≡ h .length) (sym (headed .known)) (found .0);
+        there = content-there;
+        few = small;
+        fit =
+            subst (λ (h : Head). AtomsFit v (atomsOf (h .length / 5) (partFrom (at + 3) s))) (sym (headed .known))
+            (subst (λ (bytes : List ℕ). AtomsFit v (atomsOf (headOf (drop at s) .length / 5) bytes)) (sym (rest-part (at + 3) s)) (found .1));
+      }
 
   -- an equality is a set and positions from 1 to v
   pub equality-there : head .kind ≡ Equality → (4 ≤ head .length) × PositionsFit v (take (head .length - 4) (drop 4 (partFrom (at + 3) s)))
@@ -101,10 +91,11 @@ module _ {v at : ℕ} {s : List ℕ} {head : Head} (headed : Headed v at s head)
         let same = rule-there ∙ ap (λ (k : Tag). ruleOf k (head .length) (partFrom (at + 3) s)) e in
         subst (λ (rule : Rule). Looked (lookRule place rule (take v rooms)) r after (drop v rooms)) (sym same) h
 
-    -- a look by the united sets of a clause's atoms is a look at the field's rule
-    pub look-clause-there : (sets : List ℕ) → v ≤ 64 → head .kind ≡ Clause → sets ≡ unitedSets (atomsOf (head .length / 5) (partFrom (at + 3) s))
-        → Looked (lookSets sets (take v rooms)) r after (drop v rooms) → Looked (lookRule place (ruleAt (drop at s)) (take v rooms)) r after (drop v rooms)
-    look-clause-there sets small e same h =
+    -- a look at a clause is a look at the field's rule
+    pub look-clause-there : head .kind ≡ Clause
+        → Looked (lookClause place (atomsOf (head .length / 5) (partFrom (at + 3) s)) (take v rooms)) r after (drop v rooms)
+        → Looked (lookRule place (ruleAt (drop at s)) (take v rooms)) r after (drop v rooms)
+    unfolding ruleOf
+    look-clause-there e h =
         look-there Clause e
-        (look-sets-rule place (head .length) v (partFrom (at + 3) s) rooms after r small
-        (subst (λ (m : List ℕ). Looked (lookSets m (take v rooms)) r after (drop v rooms)) same h))
+        (subst (λ (l : Look). Looked l r after (drop v rooms)) (sym (rule-clause place (atomsOf (head .length / 5) (partFrom (at + 3) s)) (take v rooms))) h)

@@ -1,9 +1,10 @@
+pub mod AtomsInTurn
 pub mod EqualityLooks
 pub mod FieldLooks
 pub mod InputLaws
-pub mod LiveSetLaws
 pub mod LooksInTurn
 pub mod RoomLists
+pub mod ScanLaws
 pub mod SettleLaws
 pub mod ShrinkRounds
 pub mod Unique

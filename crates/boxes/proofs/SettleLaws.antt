@@ -1,14 +1,17 @@
 -- Laws of settled boxes: going over named positions, values, atoms and fields one by one, and what the clauses of an equality ask. Assumes nothing.
 use mathlib.Core.Path.{_≡_, refl, sym, ap, ap₂, _∙_, subst, subst₂}
+use mathlib.Core.Logic.{⊎-elim}
 use mathlib.Core.Bool.{Bool, true, false, _&&_, _||_, and-assoc, and-true, or-false}
-use mathlib.Core.List.{List, [], _∷_, _++_, map, List·Memᴰ, List·Memᴰ·head, List·Memᴰ·tail}
+use mathlib.Core.List.{List, [], _∷_, _++_, map, List·Memᴰ, List·Memᴰ·head, List·Memᴰ·tail, List·Memᴰ·not-nil, List·Memᴰ·cases-cons}
 use Prim.Native.Nat.{ℕ, suc, _+_, _-_, _*_, _/_, _^_, _≤_, _<_}
+use lib.Dec.{T}
 use native.Mathlib.Numerals.{add-one}
 use native.Mathlib.Omega.{arith}
 use lib.ListN.{length, getD, take, drop, length-take, length-drop}
 use lib.Seq.{drop-cons, getD-take}
 use Rattle.sets.specs.Sets.{member, inside, single, values, smallest, others}
-use Rattle.sets.proofs.Sameness.{member-extensional}
+use Rattle.sets.proofs.Members.{test-true, true-test}
+use Rattle.sets.proofs.Sameness.{member-extensional, inside-iff}
 use Rattle.sets.proofs.Smallest.{values-others, values-of-empty}
 use Rattle.rules.specs.declared.field.Atom.{Atom}
 use Rattle.rules.specs.declared.field.Head.{Head}
@@ -19,14 +22,15 @@ use Rattle.rules.specs.Rules.{Rule, Field}
 use Rattle.rules.specs.Reading.{atomOf, atomsOf, headOf, ruleOf, setAt, sizeOf, fieldFault, reading}
 use Rattle.rules.specs.Clauses.{atomIn, equalityClauses, clausesOf}
 use Rattle.rules.proofs.ListLaws.{some-of-listed, listed-of-some, some-over-map, every-map}
-use Rattle.rules.proofs.WalkLaws.{Rest, rest-on, rest-end, atoms-on}
+use Rattle.rules.proofs.WalkLaws.{Rest, rest-on, rest-end}
 use Rattle.steps.specs.Boxes.{roomAt}
 use Rattle.steps.specs.Shrinking.{united, settledBy, settledClause, settledClauses, settledRule, settled}
 use Rattle.steps.proofs.BoxLaws.{every-at-place}
 use Rattle.steps.proofs.LiveLaws.{member-united}
-use Rattle.boxes.specs.United.{PositionsFit, AtomsFit, unitedSets}
+use Rattle.boxes.specs.United.{PositionsFit, AtomsFit, Atoms, unitedSets}
 use Rattle.boxes.specs.Rooms.{everyInside, someInside, fileOf, fieldsIn, SoundInput}
 use Rattle.boxes.proofs.UnitedLaws.{united-sets-at}
+use Rattle.boxes.proofs.AtomsInTurn.{atomsFrom, AtomsFrom, atoms-all, atoms-start, atoms-end, atoms-next, atom-fits, atom-listed, atoms-on-from}
 use Rattle.boxes.proofs.InputLaws.{sound-limits, sound-rest, field-there, rule-here, no-header-here, no-unknown-here, clause-here, equality-here}
 
 -- ---- tests in a row
@@ -161,78 +165,92 @@ values-settled-on box ps m h ne e f =
 
 -- ---- the atoms of a clause
 
--- the atoms from i on, of a clause of so many bytes: they are whole, each on a position from 1 to v, and whether one of them shows the clause settled decides
+-- an atom of the clause whose set has its position's room inside it shows the clause settled
+listed-settles : (box : List ℕ) (some atoms : List Atom) → ((c : Atom) → List·Memᴰ c some → List·Memᴰ c atoms) → (a : Atom) → List·Memᴰ a some → T (inside (roomAt box (a .position)) (a .set))
+    → settledBy some atoms box ≡ true
+unfolding settledBy
+listed-settles box [] atoms among a t h = absurd (List·Memᴰ·not-nil t)
+listed-settles box (c ∷ more) atoms among a t h =
+    ⊎-elim (λ e. any-holds (inside (roomAt box (c .position)) (united (c .position) atoms)) _ refl (test-true _ (wider c (among c (List·Memᴰ·head refl)) (subst (λ (d : Atom). T (inside (roomAt box (d .position)) (d .set))) e h))))
+    (λ u. or-true (inside (roomAt box (c .position)) (united (c .position) atoms)) (listed-settles box more atoms (λ d w. among d (List·Memᴰ·tail w)) a u h))
+    (List·Memᴰ·cases-cons t)
+  where
+    -- the union of a position's sets has every value of each of them
+    wider : (d : Atom) → List·Memᴰ d atoms → T (inside (roomAt box (d .position)) (d .set)) → T (inside (roomAt box (d .position)) (united (d .position) atoms))
+    wider d u k =
+        inside-iff (roomAt box (d .position)) (united (d .position) atoms) .1
+        (λ x w. member-united (d .position) x atoms .1 (some-of-listed (λ b. (b .position ≡ d .position) × member x (b .set)) u (refl, inside-iff (roomAt box (d .position)) (d .set) .0 k x w)))
+
+    or-true : (b : Bool) {later : Bool} → later ≡ true → (b || later) ≡ true
+    or-true true e = refl
+    or-true false e = e
+
+-- its atoms are on positions from 1 to 64
+pub fits-64 : {v len : ℕ} {content : List ℕ} → Atoms v len content → AtomsFit 64 (atomsOf (len / 5) content)
+fits-64 {v} {len} {content} atoms =
+    every-map (λ a. (1 ≤ a .position) × (a .position ≤ v)) (λ a. (1 ≤ a .position) × (a .position ≤ 64)) (atomsOf (len / 5) content)
+    (λ a h. (h .0, omega (arith, h .1, atoms .few))) (atoms .fit)
+
+-- the atoms from i on are left: whether one of them shows the clause settled decides
 pub record AtomsLeft (v len i : ℕ) (rooms content : List ℕ) : Type 0 where
-  pub whole : i + (len - i) / 5 * 5 ≡ len
-  pub fit : Every (λ a. (1 ≤ a .position) × (a .position ≤ v)) (atomsOf ((len - i) / 5) (drop i content))
-  pub decide : settledClause (take v rooms) (atomsOf (len / 5) content) ≡ settledBy (atomsOf ((len - i) / 5) (drop i content)) (atomsOf (len / 5) content) (take v rooms)
+  pub from : AtomsFrom v len i content
+  pub decide : settledClause (take v rooms) (atomsOf (len / 5) content) ≡ settledBy (atomsFrom len i content) (atomsOf (len / 5) content) (take v rooms)
 
 -- at the start all atoms are left
-pub atoms-left-start : (v len : ℕ) (rooms content : List ℕ) → len / 5 * 5 ≡ len → Every (λ a. (1 ≤ a .position) × (a .position ≤ v)) (atomsOf (len / 5) content)
-    → AtomsLeft v len 0 rooms content
+pub atoms-left-start : {v len : ℕ} (rooms : List ℕ) {content : List ℕ} → Atoms v len content → AtomsLeft v len 0 rooms content
 unfolding settledClause
-atoms-left-start v len rooms content e fit = record {
-  whole = omega arith;
-  fit = subst (λ (k : ℕ). Every (λ a. (1 ≤ a .position) × (a .position ≤ v)) (atomsOf k content)) all fit;
-  decide = ap (λ (k : ℕ). settledBy (atomsOf k content) (atomsOf (len / 5) content) (take v rooms)) all;
+atoms-left-start {v} {len} rooms {content} atoms = record {
+  from = atoms-start atoms;
+  decide = ap (λ (bs : List Atom). settledBy bs (atomsOf (len / 5) content) (take v rooms)) (sym (atoms-all len content));
 }
-  where
-    all : len / 5 ≡ (len - 0) / 5
-    all = omega arith
 
 -- where none is left the clause is not settled
 pub atoms-left-none : {v len i : ℕ} {rooms content : List ℕ} → AtomsLeft v len i rooms content → len ≤ i → settledClause (take v rooms) (atomsOf (len / 5) content) ≡ false
-unfolding settledBy atomsOf
-atoms-left-none {v} {len} {i} {rooms} {content} left past = left .decide ∙ ap (λ (k : ℕ). settledBy (atomsOf k (drop i content)) (atomsOf (len / 5) content) (take v rooms)) none
-  where
-    none : (len - i) / 5 ≡ 0
-    none = omega arith
+unfolding settledBy
+atoms-left-none {v} {len} {i} {rooms} {content} left past =
+    left .decide ∙ ap (λ (bs : List Atom). settledBy bs (atomsOf (len / 5) content) (take v rooms)) (atoms-end len i content past)
 
-module _ {v len i : ℕ} {rooms content : List ℕ} (left : AtomsLeft v len i rooms content) (there : i < len) {a : Atom} (here : a ≡ atomOf (drop i content)) where
-  more : i + 5 ≤ len
-  more = omega (arith, left .whole)
+module _ {v len i : ℕ} {rooms content : List ℕ} (left : AtomsLeft v len i rooms content) (there : i < len) {a : Atom} (here : a ≡ atomOf (drop i content))
+    {sets : List ℕ} {b : Bool} (few : v ≤ 64) (same : sets ≡ unitedSets (atomsOf (len / 5) content)) (test : b ≡ inside (getD rooms (a .position - 1) 0) (getD sets (a .position - 1) 0)) where
+  fits : (1 ≤ a .position) × (a .position ≤ v)
+  fits = atom-fits (left .from) there here
 
-  next : atomsOf ((len - i) / 5) (drop i content) ≡ a ∷ atomsOf ((len - (i + 5)) / 5) (drop (i + 5) content)
-  next =
-      atoms-on ((len - i) / 5) i content (omega (arith, left .whole))
-      ∙ ap₂ (λ (b : Atom) (k : ℕ). b ∷ atomsOf k (drop (i + 5) content)) (sym here) fewer
+  united-here : getD sets (a .position - 1) 0 ≡ united (a .position) (atomsOf (len / 5) content)
+  united-here =
+      ap (λ (l : List ℕ). getD l (a .position - 1) 0) same
+      ∙ united-sets-at (atomsOf (len / 5) content) (a .position - 1) (omega (arith, fits))
+      ∙ ap (λ (p : ℕ). united p (atomsOf (len / 5) content)) back
     where
-      fewer : (len - i) / 5 - 1 ≡ (len - (i + 5)) / 5
-      fewer = omega (arith, left .whole)
+      back : a .position - 1 + 1 ≡ a .position
+      back = omega (arith, fits)
 
-  fit-next : Every (λ b. (1 ≤ b .position) × (b .position ≤ v)) (a ∷ atomsOf ((len - (i + 5)) / 5) (drop (i + 5) content))
-  fit-next = subst (λ (bs : List Atom). Every (λ b. (1 ≤ b .position) × (b .position ≤ v)) bs) next (left .fit)
+  test-here : inside (roomAt (take v rooms) (a .position)) (united (a .position) (atomsOf (len / 5) content)) ≡ b
+  test-here = ap₂ inside (room-there v (a .position) rooms (fits .0) (fits .1)) (sym united-here) ∙ sym test
 
-  -- the next atom is on a position from 1 to v
-  pub atom-fits : (1 ≤ a .position) × (a .position ≤ v)
-  atom-fits = fit-next .0
+  scan : settledClause (take v rooms) (atomsOf (len / 5) content) ≡ (b || settledBy (atomsFrom len (i + 5) content) (atomsOf (len / 5) content) (take v rooms))
+  unfolding settledBy
+  scan =
+      left .decide ∙ ap (λ (bs : List Atom). settledBy bs (atomsOf (len / 5) content) (take v rooms)) (atoms-next (left .from) there here)
+      ∙ ap (λ (t : Bool). t || settledBy (atomsFrom len (i + 5) content) (atomsOf (len / 5) content) (take v rooms)) test-here
 
-  module _ {sets : List ℕ} {b : Bool} (few : v ≤ 64) (same : sets ≡ unitedSets (atomsOf (len / 5) content)) (test : b ≡ inside (getD rooms (a .position - 1) 0) (getD sets (a .position - 1) 0)) where
-    united-here : getD sets (a .position - 1) 0 ≡ united (a .position) (atomsOf (len / 5) content)
-    united-here =
-        ap (λ (l : List ℕ). getD l (a .position - 1) 0) same
-        ∙ united-sets-at (atomsOf (len / 5) content) (a .position - 1) (omega (arith, atom-fits))
-        ∙ ap (λ (p : ℕ). united p (atomsOf (len / 5) content)) back
-      where
-        back : a .position - 1 + 1 ≡ a .position
-        back = omega (arith, atom-fits)
+  -- it shows the clause settled
+  pub atom-settles : b ≡ true → settledClause (take v rooms) (atomsOf (len / 5) content) ≡ true
+  atom-settles e = any-holds b _ scan e
 
-    test-here : inside (roomAt (take v rooms) (a .position)) (united (a .position) (atomsOf (len / 5) content)) ≡ b
-    test-here = ap₂ inside (room-there v (a .position) rooms (atom-fits .0) (atom-fits .1)) (sym united-here) ∙ sym test
+  -- else the others are left
+  pub atoms-left-on : b ≡ false → AtomsLeft v len (i + 5) rooms content
+  atoms-left-on e = record { from = atoms-on-from (left .from) there here; decide = any-on b _ scan e }
 
-    scan : settledClause (take v rooms) (atomsOf (len / 5) content) ≡ (b || settledBy (atomsOf ((len - (i + 5)) / 5) (drop (i + 5) content)) (atomsOf (len / 5) content) (take v rooms))
-    unfolding settledBy
-    scan =
-        left .decide ∙ ap (λ (bs : List Atom). settledBy bs (atomsOf (len / 5) content) (take v rooms)) next
-        ∙ ap (λ (t : Bool). t || settledBy (atomsOf ((len - (i + 5)) / 5) (drop (i + 5) content)) (atomsOf (len / 5) content) (take v rooms)) test-here
-
-    -- it shows the clause settled
-    pub atom-settles : b ≡ true → settledClause (take v rooms) (atomsOf (len / 5) content) ≡ true
-    atom-settles e = any-holds b _ scan e
-
-    -- else the others are left
-    pub atoms-left-on : b ≡ false → AtomsLeft v len (i + 5) rooms content
-    atoms-left-on e = record { whole = omega (arith, left .whole, more); fit = fit-next .1; decide = any-on b _ scan e }
+-- an atom whose set has its position's room inside it shows the clause settled
+pub set-settles : {v len i : ℕ} {content : List ℕ} (rooms : List ℕ) (from : AtomsFrom v len i content) → i < len → {a : Atom} → a ≡ atomOf (drop i content) → {b : Bool}
+    → b ≡ inside (getD rooms (a .position - 1) 0) (a .set) → b ≡ true → settledClause (take v rooms) (atomsOf (len / 5) content) ≡ true
+unfolding settledClause
+set-settles {v} {len} {i} {content} rooms from there {a} here test e =
+    listed-settles (take v rooms) (atomsOf (len / 5) content) (atomsOf (len / 5) content) (λ c t. t) a (atom-listed from there here)
+    (true-test (inside (roomAt (take v rooms) (a .position)) (a .set)) (ap (λ (room : ℕ). inside room (a .set)) (room-there v (a .position) rooms (fits .0) (fits .1)) ∙ sym test ∙ e))
+  where
+    fits : (1 ≤ a .position) × (a .position ≤ v)
+    fits = atom-fits from there here
 
 -- ---- the fields of a sound file
 
@@ -259,7 +277,7 @@ pub record FieldHere (s : List ℕ) (v : ℕ) (rooms : List ℕ) (at : ℕ) (hea
   pub decide : settled (fieldsIn s) (take v rooms) ≡ (settledRule (take v rooms) (ruleOf (head .kind) (head .length) content) && settled later (take v rooms))
   pub known : (head .kind ≡ Equality → ⊥) → head .kind ≡ Clause
   pub equality-fits : head .kind ≡ Equality → (4 ≤ head .length) × PositionsFit v (take (head .length - 4) (drop 4 content))
-  pub clause-fits : head .kind ≡ Clause → (head .length / 5 * 5 ≡ head .length) × Every (λ a. (1 ≤ a .position) × (a .position ≤ v)) (atomsOf (head .length / 5) content)
+  pub clause-fits : head .kind ≡ Clause → Atoms v (head .length) content
 
 by-kind : (k : Tag) → (k ≡ Header → ⊥) → (k ≡ Unknown → ⊥) → (k ≡ Equality → ⊥) → k ≡ Clause
 by-kind Header h u e = absurd (h refl)
@@ -286,7 +304,9 @@ module _ (s : List ℕ) (v : ℕ) (rooms : List ℕ) (at : ℕ) (sound : SoundIn
             ∙ ap (λ (r : Rule). settledRule (take v rooms) r && settled (step .0) (take v rooms)) (rule-here v n at s there none);
         known = by-kind (headOf (drop at s) .kind) (no-header-here v n at s there none) (no-unknown-here v n at s there none);
         equality-fits = λ e. let fit = equality-here v n at s there none e in (fit .0, fit .2);
-        clause-fits = clause-here v n at s there none;
+        clause-fits = λ e.
+            let fit = clause-here v n at s there none e in
+            record { whole = fit .0; there = omega (arith, length-drop (at + 3) s); few = sound-limits s v sound .1; fit = fit .1 };
       }
     where
       together : (len : ℕ) → at + (3 + len) ≡ at + 3 + len
@@ -301,14 +321,6 @@ module _ (s : List ℕ) (v : ℕ) (rooms : List ℕ) (at : ℕ) (sound : SoundIn
   field-here e f = subst₂ (λ (h : Head) (l : List ℕ). FieldHere s v rooms at h l) (sym e) (sym f) field-read
 
 module _ {s : List ℕ} {v : ℕ} {rooms : List ℕ} {at : ℕ} {head : Head} {content : List ℕ} (field : FieldHere s v rooms at head content) where
-  -- a clause is as the list of united sets wants it
-  pub clause-unites : head .kind ≡ Clause → (head .length / 5 * 5 ≤ length content) × AtomsFit (atomsOf (head .length / 5) content)
-  clause-unites e =
-      let fit = field .clause-fits e in (
-        omega (arith, fit .0, field .long),
-        every-map (λ a. (1 ≤ a .position) × (a .position ≤ v)) (λ a. (1 ≤ a .position) × (a .position ≤ 64)) (atomsOf (head .length / 5) content) (λ a h. (h .0, omega (arith, h .1, field .few))) (fit .1),
-      )
-
   -- the rule of an equality
   pub equality-rule : {b : Bool} → head .kind ≡ Equality → b ≡ settledRule (take v rooms) (ruleOf Equality (head .length) content)
       → settledRule (take v rooms) (ruleOf (head .kind) (head .length) content) ≡ b

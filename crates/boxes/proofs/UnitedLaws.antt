@@ -1,4 +1,4 @@
--- Laws of the list of united sets: how it grows by an atom, and that a look by it is a look at the clause. Assumes nothing.
+-- Laws of the list of united sets: its elements, and how it grows by an atom. Assumes nothing.
 use mathlib.Core.Path.{_≡_, refl, sym, ap, ap₂, _∙_, subst}
 use mathlib.Core.Bool.{Bool, true, false, not}
 use mathlib.Core.List.{List, [], _∷_, _++_, map}
@@ -15,7 +15,7 @@ use Rattle.rules.specs.Lists.{Every}
 use Rattle.rules.specs.Reading.{atomOf, atomsOf}
 use Rattle.steps.specs.Boxes.{roomAt, withRoom}
 use Rattle.steps.specs.Shrinking.{uniteIf, united, isLive, liveFrom, cut, lookBy, lookClause}
-use Rattle.boxes.specs.United.{unitedFrom, unitedSets, AtomsFit, indexIf, liveSets, liveOf, lookLive, lookSets, Looked}
+use Rattle.boxes.specs.United.{unitedFrom, unitedSets, AtomsFit}
 
 -- ---- the list by its elements
 
@@ -105,7 +105,7 @@ atom-here P (suc count) (suc k) content h every =
     (atom-here P count k (drop 5 content) (omega arith) (every .1))
 
 -- where the atoms fit, the one at a place names a position from 1 to 64
-pub atom-fits : (count k : ℕ) (content : List ℕ) (a : Atom) → k < count → a ≡ atomOf (drop (k * 5) content) → AtomsFit (atomsOf count content)
+pub atom-fits : (count k : ℕ) (content : List ℕ) (a : Atom) → k < count → a ≡ atomOf (drop (k * 5) content) → AtomsFit 64 (atomsOf count content)
     → (1 ≤ a .position) × (a .position ≤ 64)
 atom-fits count k content a h e fit =
     subst (λ (b : Atom). (1 ≤ b .position) × (b .position ≤ 64)) (sym e) (atom-here (λ b. (1 ≤ b .position) × (b .position ≤ 64)) count k content h fit)
@@ -127,7 +127,7 @@ module _ (count left : ℕ) (content : List ℕ) where
       next = omega arith
 
   -- the list of the atoms from a place on, with the atom before it united, is the list of one atom more
-  pub united-before : (old new : List ℕ) (a : Atom) → 0 < left → left ≤ count → AtomsFit (atomsOf count content)
+  pub united-before : (old new : List ℕ) (a : Atom) → 0 < left → left ≤ count → AtomsFit 64 (atomsOf count content)
       → old ≡ unitedSets (atomsOf (count - left) (drop (left * 5) content)) → a ≡ atomOf (drop ((left - 1) * 5) content)
       → new ≡ set old (a .position - 1) (union (a .set) (getD old (a .position - 1) 0))
       → new ≡ unitedSets (atomsOf (count - (left - 1)) (drop ((left - 1) * 5) content))
@@ -150,46 +150,3 @@ module _ (count left : ℕ) (content : List ℕ) where
 pub united-end : (count : ℕ) (bytes : List ℕ) → replicate 64 0 ≡ unitedSets (atomsOf (count - count) bytes)
 unfolding atomsOf
 united-end count bytes = let none : 0 ≡ count - count = omega arith in sym united-sets-none ∙ ap (λ (k : ℕ). unitedSets (atomsOf k bytes)) none
-
--- ---- a look
-
-module _ (atoms : List Atom) where
-  -- a room meets its set in the list where its position is live
-  live-test : (i room : ℕ) → i < 64 → isLive atoms (i + 1) room ≡ not (isEmpty (common room (getD (unitedSets atoms) i 0)))
-  unfolding isLive
-  live-test i room h = ap (λ (m : ℕ). not (isEmpty (common room m))) (sym (united-sets-at atoms i h))
-
-  -- the live positions are one above the live indices
-  live-positions : (i : ℕ) (box : List ℕ) → i + length box ≤ 64 → liveFrom atoms (i + 1) box ≡ map (λ (j : ℕ). j + 1) (liveSets (unitedSets atoms) i box)
-  unfolding liveFrom liveSets indexIf
-  live-positions i [] h = refl
-  live-positions i (room ∷ box) h = go (isLive atoms (i + 1) room) refl (live-positions (i + 1) box (omega arith))
-    where
-      go : (b : Bool) → isLive atoms (i + 1) room ≡ b
-          → liveFrom atoms (i + 1 + 1) box ≡ map (λ (j : ℕ). j + 1) (liveSets (unitedSets atoms) (i + 1) box)
-          → liveFrom atoms (i + 1) (room ∷ box) ≡ map (λ (j : ℕ). j + 1) (liveSets (unitedSets atoms) i (room ∷ box))
-      go true e more = rw (← live-test i room (omega arith), e) (ap (λ (ps : List ℕ). (i + 1) ∷ ps) more)
-      go false e more = rw (← live-test i room (omega arith), e) more
-
-  -- cutting a position's room is cutting the room at its index by the list
-  cut-by-sets : (i : ℕ) (box : List ℕ) → length box ≤ 64 → cut atoms (i + 1) box ≡ set box i (common (getD box i 0) (getD (unitedSets atoms) i 0))
-  unfolding cut roomAt withRoom
-  cut-by-sets i box h = ap (λ (k : ℕ). set box k (common (getD box k 0) (united (i + 1) atoms))) back ∙ cases (decLt i 64)
-    where
-      back : i + 1 - 1 ≡ i
-      back = omega arith
-
-      cases : Dec (i < 64) → set box i (common (getD box i 0) (united (i + 1) atoms)) ≡ set box i (common (getD box i 0) (getD (unitedSets atoms) i 0))
-      cases (yes b) = ap (λ (m : ℕ). set box i (common (getD box i 0) m)) (sym (united-sets-at atoms i b))
-      cases (no n) = let far : length box ≤ i = omega arith in set-out box i _ far ∙ sym (set-out box i _ far)
-
--- a look by the list of united sets is a look at the clause
-pub look-sets-clause : (place : ℕ) (atoms : List Atom) (box after rest : List ℕ) (r : Bool) → length box ≤ 64
-    → Looked (lookSets (unitedSets atoms) box) r after rest → Looked (lookClause place atoms box) r after rest
-unfolding lookSets lookClause liveOf lookLive lookBy
-look-sets-clause place atoms box after rest r h l = rw (live-positions atoms 0 box (omega arith)) (by (liveSets (unitedSets atoms) 0 box) l)
-  where
-    by : (is : List ℕ) → Looked (lookLive (liveOf is) (unitedSets atoms) box) r after rest → Looked (lookBy (map (λ (j : ℕ). j + 1) is) place atoms box) r after rest
-    by [] l = l
-    by (i ∷ []) l = (l .0, l .1 ∙ ap (λ (b : List ℕ). b ++ rest) (sym (cut-by-sets atoms i box h)))
-    by (i ∷ j ∷ is) l = l

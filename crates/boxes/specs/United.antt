@@ -1,15 +1,13 @@
--- What the functions of `src/clause.rt` compute: the list of united sets, and a look that goes by it. Assumes nothing.
-use Prim.Native.Nat.{ℕ, zero, suc, _+_, _≤_}
+-- What the functions of `src/clause.rt` and `src/equality.rt` are given and what they leave: atoms and positions that fit, the list of united sets, and what a look leaves. Assumes nothing.
+use Prim.Native.Nat.{ℕ, zero, suc, _*_, _/_, _≤_}
 use mathlib.Core.Path.{_≡_}
-use mathlib.Core.Bool.{Bool, true, false, not}
+use mathlib.Core.Bool.{Bool, true, false}
 use mathlib.Core.List.{List, [], _∷_, _++_}
-use lib.ListN.{getD, set}
-use Rattle.sets.specs.Sets.{common, isEmpty}
+use lib.ListN.{length}
 use Rattle.rules.specs.declared.field.Atom.{Atom}
 use Rattle.rules.specs.Lists.{Every}
+use Rattle.rules.specs.Reading.{atomsOf}
 use Rattle.steps.specs.Shrinking.{Look, dead, alive, united}
-use Rattle.boxes.specs.declared.clause.Live.{Live}
-use Rattle.boxes.specs.declared.clause.Live.the-variants.{Nothing, One, Several}
 
 -- the united sets of k positions from p on
 unfoldable pub unitedFrom : ℕ → ℕ → List Atom → List ℕ
@@ -20,39 +18,22 @@ unitedFrom p (suc k) atoms = united p atoms ∷ unitedFrom (suc p) k atoms
 unfoldable pub unitedSets : List Atom → List ℕ
 unitedSets atoms = unitedFrom 1 64 atoms
 
--- every atom names a position from 1 to 64
-abbrev pub AtomsFit : List Atom → Type 0
-AtomsFit atoms = Every (λ a. (1 ≤ a .position) × (a .position ≤ 64)) atoms
+-- every atom names a position from 1 to v
+abbrev pub AtomsFit : ℕ → List Atom → Type 0
+AtomsFit v atoms = Every (λ a. (1 ≤ a .position) × (a .position ≤ v)) atoms
 
-unfoldable pub indexIf : Bool → ℕ → List ℕ → List ℕ
-indexIf true i rest = i ∷ rest
-indexIf false i rest = rest
+-- a content of so many bytes is whole atoms, each on one of at most 64 positions
+pub record Atoms (v len : ℕ) (content : List ℕ) : Type 0 where
+  pub whole : len / 5 * 5 ≡ len
+  pub there : len ≤ length content
+  pub few : v ≤ 64
+  pub fit : AtomsFit v (atomsOf (len / 5) content)
 
--- the indices, from i on, of the rooms that meet their united set
-unfoldable pub liveSets : List ℕ → ℕ → List ℕ → List ℕ
-liveSets sets i [] = []
-liveSets sets i (room ∷ box) = indexIf (not (isEmpty (common room (getD sets i 0)))) i (liveSets sets (i + 1) box)
-
--- as far as a look needs to know
-unfoldable pub liveOf : List ℕ → Live
-liveOf [] = Nothing
-liveOf (i ∷ []) = One i
-liveOf (i ∷ j ∷ more) = Several
-
--- a look that goes by the list of united sets
-unfoldable pub lookLive : Live → List ℕ → List ℕ → Look
-lookLive Nothing sets box = dead 0
-lookLive (One i) sets box = alive (set box i (common (getD box i 0) (getD sets i 0)))
-lookLive Several sets box = alive box
-
-unfoldable pub lookSets : List ℕ → List ℕ → Look
-lookSets sets box = lookLive (liveOf (liveSets sets 0 box)) sets box
+-- positions from 1 to v
+abbrev pub PositionsFit : ℕ → List ℕ → Type 0
+PositionsFit v ps = Every (λ p. (1 ≤ p) × (p ≤ v)) ps
 
 -- what a look leaves: false where it is dead; else true, and the rooms of the box in front of the others
 abbrev pub Looked : Look → Bool → List ℕ → List ℕ → Type 0
 Looked (dead place) r after rest = r ≡ false
 Looked (alive box) r after rest = (r ≡ true) × (after ≡ box ++ rest)
-
--- positions from 1 to v
-abbrev pub PositionsFit : ℕ → List ℕ → Type 0
-PositionsFit v ps = Every (λ p. (1 ≤ p) × (p ≤ v)) ps

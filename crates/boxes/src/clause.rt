@@ -1,21 +1,15 @@
-// Looking at one clause: the union of each position's sets, which positions are live, and the cut.
-// The contracts cite specs/United.antt.
+// Looking at one clause: a scan over its atoms, left at the second live position, and the cut. For
+// the test of settled, the union of each position's sets. The contracts cite specs/United.antt and the
+// search of `steps`.
 ghost use mathlib.Core.Path.{_≡_};
-ghost use Prim.Native.Nat.{_+_, _-_, _*_, _≤_, _<_};
+ghost use Prim.Native.Nat.{ℕ, _+_, _-_, _*_, _/_, _≤_, _<_};
 ghost use lib.ListN.{length, getD, set, take, drop, replicate};
 ghost use Rattle.sets.specs.Sets.{union};
 ghost use Rattle.rules.specs.Reading.{atomsOf};
-ghost use Rattle.boxes.specs.United.{unitedSets, AtomsFit, liveOf, liveSets, lookSets, Looked};
+ghost use Rattle.steps.specs.Shrinking.{lookClause};
+ghost use Rattle.boxes.specs.United.{unitedSets, AtomsFit, Atoms, Looked};
 use rules::field::atom_at;
 use sets::Room;
-
-// The positions that are live in a clause, as far as a look needs to know: none, the one at an
-// index, or several.
-pub enum Live {
-    Nothing,
-    One(usize),
-    Several,
-}
 
 // Unites a set with what the list has for a position.
 pub(crate) fn unite(united: &mut [u32; 64], position: u32, mask: u32)
@@ -30,7 +24,7 @@ pub(crate) fn unite(united: &mut [u32; 64], position: u32, mask: u32)
 // The list of the 64 united sets of the first so many atoms of a content.
 pub(crate) fn united_atoms(content: &[u8], count: usize) -> [u32; 64]
     requires { ⌜ count * 5 ≤ length (now content) ⌝ }
-    requires { ⌜ AtomsFit (atomsOf count (now content)) ⌝ }
+    requires { ⌜ AtomsFit 64 (atomsOf count (now content)) ⌝ }
     ensures { λ r. ⌜ r ≡ unitedSets (atomsOf count (now (content .entry))) ⌝ }
 {
     let mut united = [0u32; 64];
@@ -43,46 +37,36 @@ pub(crate) fn united_atoms(content: &[u8], count: usize) -> [u32; 64]
     united
 }
 
-// Which of the first v positions have a room that meets their united set. The scan is left at the
-// second one.
-pub(crate) fn live_in(rooms: &[u32; 64], united: &[u32; 64], v: usize) -> Live
-    requires { ⌜ v ≤ 64 ⌝ }
-    ensures { λ r. ⌜ r ≡ liveOf (liveSets (now (united .entry)) 0 (take v (now (rooms .entry)))) ⌝ }
+// Looks at the clause that a content of so many bytes is: no live position, and it is dead (false);
+// one, and its room is cut down to what it shares with the union of its sets; more, and nothing
+// changes. A position is live by an atom whose set its room meets, and the cut is what the room shares
+// with the sets of these atoms: the other atoms' sets share nothing with it.
+pub(crate) fn look_atoms(rooms: &mut [u32; 64], content: &[u8], len: usize, v: usize) -> bool
+    requires { ⌜ Atoms v len (now content) ⌝ }
+    ensures { λ r. ⌜ ((place : ℕ) → Looked (lookClause place (atomsOf (len / 5) (now (content .entry))) (take v (now (rooms .entry)))) r (now (rooms .exit)) (drop v (now (rooms .entry)))) ⌝ }
 {
-    let mut found = 64;
+    let mut live = 0;
+    let mut kept = 0;
     let mut i = 0;
-    while i < v {
-        let room = Room { mask: rooms[i] };
-        let shared = room.common(Room { mask: united[i] });
+    while i < len {
+        let atom = atom_at(content, i);
+        let p = atom.position as usize - 1;
+        let room = Room { mask: rooms[p] };
+        let shared = room.common(Room { mask: atom.set });
         if shared.mask != 0 {
-            if found < 64 {
-                return Live::Several;
+            if kept != 0 {
+                if p != live {
+                    return true;
+                }
             }
-            found = i;
+            live = p;
+            kept = Room { mask: kept }.union(shared).mask;
         }
-        i += 1;
+        i += 5;
     }
-    if found < 64 {
-        Live::One(found)
-    } else {
-        Live::Nothing
+    if kept == 0 {
+        return false;
     }
-}
-
-// Looks at the clause with these united sets: no live position, and it is dead (false); one, and
-// its room is cut down to what it shares with the union of its sets; more, and nothing changes.
-pub(crate) fn look_united(rooms: &mut [u32; 64], united: &[u32; 64], v: usize) -> bool
-    requires { ⌜ v ≤ 64 ⌝ }
-    ensures { λ r. ⌜ Looked (lookSets (now (united .entry)) (take v (now (rooms .entry)))) r (now (rooms .exit)) (drop v (now (rooms .entry))) ⌝ }
-{
-    let live = live_in(rooms, united, v);
-    match live {
-        Live::Nothing => false,
-        Live::One(i) => {
-            let room = Room { mask: rooms[i] };
-            rooms[i] = room.common(Room { mask: united[i] }).mask;
-            true
-        }
-        Live::Several => true,
-    }
+    rooms[live] = kept;
+    true
 }

@@ -10,9 +10,7 @@ ghost use Rattle.rules.specs.Clauses.{atomIn};
 ghost use Rattle.rules.specs.Reading.{ruleOf};
 ghost use Rattle.rules.specs.declared.field.Tag.the-variants.{Equality};
 ghost use Rattle.steps.specs.Shrinking.{lookClauses, lookRule};
-ghost use Rattle.boxes.specs.United.{unitedSets, PositionsFit, Looked};
-use super::clause::look_united;
-use super::clause::unite;
+ghost use Rattle.boxes.specs.United.{PositionsFit, Looked};
 use rules::field::set_at;
 use sets::Room;
 
@@ -52,19 +50,42 @@ pub(crate) fn look_inside(
     true
 }
 
-// The list of the 64 united sets of the clause "one of the positions is in the set", for the
-// positions that the first so many bytes name.
-pub(crate) fn united_positions(positions: &[u8], count: usize, mask: u32) -> [u32; 64]
-    requires { ⌜ (count ≤ length (now positions)) × PositionsFit 64 (take count (now positions)) ⌝ }
-    ensures { λ r. ⌜ r ≡ unitedSets (map (atomIn mask) (take count (now (positions .entry)))) ⌝ }
+// Looks at the clause "one of the positions is in the set", for the positions that the first so many
+// bytes name: false where none of their rooms meets the set. The scan is left at the second live
+// position.
+pub(crate) fn look_any(
+    rooms: &mut [u32; 64],
+    positions: &[u8],
+    count: usize,
+    mask: u32,
+    v: usize,
+) -> bool
+    requires { ⌜ (count ≤ length (now positions)) × (v ≤ 64) × PositionsFit v (take count (now positions)) ⌝ }
+    ensures { λ r. ⌜ ((place : ℕ) → Looked (lookClauses place (map (atomIn mask) (take count (now (positions .entry))) ∷ []) (take v (now (rooms .entry)))) r (now (rooms .exit)) (drop v (now (rooms .entry)))) ⌝ }
 {
-    let mut united = [0u32; 64];
-    let mut left = count;
-    while left > 0 {
-        left -= 1;
-        unite(&mut united, positions[left] as u32, mask);
+    let mut live = 0;
+    let mut kept = 0;
+    let mut i = 0;
+    while i < count {
+        let p = positions[i] as usize - 1;
+        let room = Room { mask: rooms[p] };
+        let shared = room.common(Room { mask });
+        if shared.mask != 0 {
+            if kept != 0 {
+                if p != live {
+                    return true;
+                }
+            }
+            live = p;
+            kept = Room { mask: kept }.union(shared).mask;
+        }
+        i += 1;
     }
-    united
+    if kept == 0 {
+        return false;
+    }
+    rooms[live] = kept;
+    true
 }
 
 // Looks at the clauses "one of the positions is in {x}" of the values x of the set, rising.
@@ -82,8 +103,7 @@ pub(crate) fn look_values(
     while left != 0 {
         let open = Room { mask: left };
         let one = Room::single(open.smallest());
-        let united = united_positions(positions, count, one.mask);
-        if !look_united(rooms, &united, v) {
+        if !look_any(rooms, positions, count, one.mask, v) {
             return false;
         }
         left = open.common(one.complement(Room::VALUES)).mask;

@@ -2,14 +2,14 @@
 // atom that shows it. The contracts cite the search of `steps`.
 ghost use mathlib.Core.Path.{_≡_};
 ghost use mathlib.Core.List.{map};
-ghost use Prim.Native.Nat.{ℕ, _+_, _-_, _≤_, _<_};
+ghost use Prim.Native.Nat.{ℕ, _+_, _-_, _/_, _≤_, _<_};
 ghost use lib.ListN.{length, take, drop};
 ghost use Rattle.sets.specs.Sets.{single, values};
 ghost use Rattle.rules.specs.Clauses.{atomIn};
-ghost use Rattle.rules.specs.Reading.{ruleOf};
+ghost use Rattle.rules.specs.Reading.{ruleOf, atomsOf};
 ghost use Rattle.rules.specs.declared.field.Tag.the-variants.{Equality};
-ghost use Rattle.steps.specs.Shrinking.{settledBy, settledClauses, settledRule, settled};
-ghost use Rattle.boxes.specs.United.{PositionsFit};
+ghost use Rattle.steps.specs.Shrinking.{settledBy, settledClause, settledClauses, settledRule, settled};
+ghost use Rattle.boxes.specs.United.{PositionsFit, Atoms};
 ghost use Rattle.boxes.specs.Rooms.{SoundInput, fieldsIn, everyInside, someInside};
 use super::clause::united_atoms;
 use rules::field::Tag;
@@ -82,8 +82,28 @@ fn settled_equality(rooms: &[u32; 64], content: &[u8], len: usize, v: usize) -> 
     every_value_taken(rooms, positions, len - 4, mask, v)
 }
 
+// Whether the clause that a content of so many bytes is, is settled: by the list of its united sets.
+fn settled_united(rooms: &[u32; 64], content: &[u8], len: usize, v: usize) -> bool
+    requires { ⌜ Atoms v len (now content) ⌝ }
+    ensures { λ r. ⌜ r ≡ settledClause (take v (now (rooms .entry))) (atomsOf (len / 5) (now (content .entry))) ⌝ }
+{
+    let united = united_atoms(content, len / 5);
+    let mut at = 0;
+    while at < len {
+        let atom = atom_at(content, at);
+        let p = atom.position as usize - 1;
+        let room = Room { mask: rooms[p] };
+        if room.inside(Room { mask: united[p] }) {
+            return true;
+        }
+        at += 5;
+    }
+    false
+}
+
 // Whether the box of the first v rooms is settled under the rules of a sound file: every clause has
-// a position whose room lies inside the union of its sets.
+// a position whose room lies inside the union of its sets. Where the set of one atom shows it, the
+// field is left at once; the sets are united only where none does.
 pub fn settled(input: &[u8], v: usize, rooms: &[u32; 64]) -> bool
     requires { ⌜ SoundInput (now input) v ⌝ }
     ensures { λ r. ⌜ r ≡ settled (fieldsIn (now (input .entry))) (take v (now (rooms .entry))) ⌝ }
@@ -102,18 +122,19 @@ pub fn settled(input: &[u8], v: usize, rooms: &[u32; 64]) -> bool
             }
             continue 'fields;
         }
-        let united = united_atoms(content, len / 5);
         let mut i = 0;
         while i < len {
             let atom = atom_at(content, i);
             let p = atom.position as usize - 1;
             let room = Room { mask: rooms[p] };
-            if room.inside(Room { mask: united[p] }) {
+            if room.inside(Room { mask: atom.set }) {
                 continue 'fields;
             }
             i += 5;
         }
-        return false;
+        if !settled_united(rooms, content, len, v) {
+            return false;
+        }
     }
     true
 }

@@ -9,8 +9,7 @@ ghost use Rattle.steps.specs.Boxes.{Rooms};
 ghost use Rattle.steps.specs.Shrinking.{lookRule, round, sameRooms, shrunk};
 ghost use Rattle.boxes.specs.United.{Looked};
 ghost use Rattle.boxes.specs.Rooms.{SoundInput, fieldsIn, Rounded, shrunkRooms};
-use super::clause::look_united;
-use super::clause::united_atoms;
+use super::clause::look_atoms;
 use super::equality::look_equality;
 use rules::field::Tag;
 use rules::field::head_at;
@@ -39,10 +38,7 @@ pub(crate) fn look_field(input: &[u8], at: usize, v: usize, rooms: &mut [u32; 64
     let content = &input[from..];
     match kind {
         Tag::Header => true,
-        Tag::Clause => {
-            let united = united_atoms(content, len / 5);
-            look_united(rooms, &united, v)
-        }
+        Tag::Clause => look_atoms(rooms, content, len, v),
         Tag::Equality => look_equality(rooms, content, len, v),
         Tag::Unknown => true,
     }

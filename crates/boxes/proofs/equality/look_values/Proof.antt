@@ -9,9 +9,9 @@ use Rattle.sets.specs.Sets.{single, values, smallest, others}
 use Rattle.sets.proofs.Smallest.{others-below, count-others}
 use Rattle.rules.specs.Clauses.{atomIn}
 use Rattle.steps.specs.Shrinking.{lookClauses}
-use Rattle.boxes.specs.United.{unitedSets, Looked}
+use Rattle.boxes.specs.United.{Looked}
 use Rattle.boxes.proofs.LooksInTurn.{LeftToLook, left-all, left-dead, left-then, left-none}
-use Rattle.boxes.proofs.EqualityLooks.{others-computed, next-value, no-value, fits-more, look-by-sets}
+use Rattle.boxes.proofs.EqualityLooks.{others-computed, next-value, no-value}
 use Rattle.boxes.proofs.equality.look_values.Statement.{statement}
 use Rattle.boxes.proofs.equality.look_values.Tie as tie
 
@@ -28,25 +28,25 @@ one : (c : tie.After-single Inv-loop μ-loop) → c .single .result .mask ≡ si
 one c = c .single .ensures .result ∙ ap single (c .before .smallest .ensures .result)
 
 -- the loop's head of a turn
-abbrev head : tie.After-look-united Inv-loop μ-loop → tie.At-loop Inv-loop μ-loop
-head c = c .before .before .before .before .before .before .before
+abbrev head : tie.After-look-any Inv-loop μ-loop → tie.At-loop Inv-loop μ-loop
+head c = c .before .before .before .before .before
 
 -- a turn looks at the clause of the smallest value that is left
-looked-at : (c : tie.After-look-united Inv-loop μ-loop) (place : ℕ)
+looked-at : (c : tie.After-look-any Inv-loop μ-loop) (place : ℕ)
     → Looked
     (lookClauses place (map (atomIn (single (smallest (head c .loop .left)))) (take (head c .before .before .args .count) (head c .before .before .args .positions .now)) ∷ [])
     (take (head c .before .before .args .v) (head c .loop .rooms)))
-    (c .look-united .result) (c .look-united .last .0) (drop (head c .before .before .args .v) (head c .loop .rooms))
-looked-at c =
+    (c .look-any .result) (c .look-any .last .0) (drop (head c .before .before .args .v) (head c .loop .rooms))
+looked-at c place =
     let a = head c .before .before .args in
-    look-by-sets _ (a .v) _ (head c .loop .rooms) _ (c .look-united .result) (head c .before .before .pre .1)
-    (c .before .before .before .united-positions .ensures
-    ∙ ap (λ (m : ℕ). unitedSets (map (atomIn m) (take (a .count) (a .positions .now)))) (one (c .before .before .before .before))) (c .look-united .ensures)
+    subst
+    (λ (m : ℕ). Looked (lookClauses place (map (atomIn m) (take (a .count) (a .positions .now)) ∷ []) (take (a .v) (head c .loop .rooms))) (c .look-any .result) (c .look-any .last .0) (drop (a .v) (head c .loop .rooms)))
+    (one (c .before .before)) (c .look-any .ensures place)
 
 -- what is left after a turn are the other values
 rest : (c : tie.After-common Inv-loop μ-loop) → c .common .result .mask ≡ others (head (c .before .before .before) .loop .left)
 rest c =
-    others-computed _ _ _ _ (one (c .before .before .before .before .before .before .before)) (c .before .complement .ensures .result) (c .common .ensures .result)
+    others-computed _ _ _ _ (one (c .before .before .before .before .before)) (c .before .complement .ensures .result) (c .common .ensures .result)
 
 loop-holds : tie.Need-loop-holds Inv-loop μ-loop
 loop-holds c = (c .before .fits .mask .fits, left-all _ _ _)
@@ -57,18 +57,12 @@ smallest-requires c κs = tt
 single-requires : tie.Need-single-requires Inv-loop μ-loop
 single-requires c κs = tt
 
-united-positions-requires : tie.Need-united-positions-requires Inv-loop μ-loop
-united-positions-requires c κs =
-    let start = c .before .before .before .before .before in
-    let pre = start .pre in
-    (pre .0, fits-more (start .args .v) 64 (take (start .args .count) (start .args .positions .now)) (pre .1) (pre .2))
-
-look-united-requires : tie.Need-look-united-requires Inv-loop μ-loop
-look-united-requires c κs = c .before .before .before .before .before .before .before .before .pre .1
+look-any-requires : tie.Need-look-any-requires Inv-loop μ-loop
+look-any-requires c κs = c .before .before .before .before .before .before .pre
 
 returns : tie.Need-returns Inv-loop μ-loop
 returns c =
-    let turn = c .before .before .before .before .before .before .before in
+    let turn = c .before .before .before .before .before in
     let left = turn .before .loop .left in
     left-dead _ _ (turn .before .loop .inv .1) (next-value _ left (others left) (turn .before .loop .inv .0) (turn .loop-test .taken) refl) _ (looked-at (c .before))
     (not-true _ (c .if1 .taken)) _
@@ -81,13 +75,13 @@ common-requires c κs = tt
 
 loop-less : tie.Need-loop-less Inv-loop μ-loop
 loop-less c =
-    let turn = c .before .before .before .before .before .before .before .before .before in
+    let turn = c .before .before .before .before .before .before .before in
     let left = turn .before .loop .left in
     rw (rest c) (omega (arith, count-others left (turn .before .loop .inv .0) (turn .loop-test .taken)))
 
 loop-again : tie.Need-loop-again Inv-loop μ-loop
 loop-again c =
-    let turn = c .before .before .before .before .before .before .before .before .before in
+    let turn = c .before .before .before .before .before .before .before in
     let left = turn .before .loop .left in
     let mask = turn .before .loop .inv .0 in (
       subst (λ (m : ℕ). m < 2 ^ 32) (sym (rest c)) (others-below left mask),
@@ -107,8 +101,7 @@ look-values-spec =
     loop-holds
     smallest-requires
     single-requires
-    united-positions-requires
-    look-united-requires
+    look-any-requires
     returns
     complement-requires
     common-requires

@@ -10,15 +10,16 @@ use borrow.Author.Needs.{needs}
 use borrow.Author.Tests.{not-true, not-false}
 use Rattle.rules.specs.declared.field.Tag.the-variants.{Clause}
 use Rattle.rules.proofs.ByteLaws.{rest-part}
-use Rattle.boxes.proofs.SettleLaws.{AtomsLeft, atoms-left-start, atoms-left-none, atom-fits, atom-settles, atoms-left-on, FieldsLeft, fields-left-start, fields-left-none, FieldHere, head-there, field-here, field-fails, fields-left-on, equality-rule, clause-rule, clause-unites}
+use Rattle.boxes.proofs.AtomsInTurn.{AtomsFrom, atoms-start, atom-there, atom-fits, atoms-on-from}
+use Rattle.boxes.proofs.SettleLaws.{set-settles, FieldsLeft, fields-left-start, fields-left-none, FieldHere, head-there, field-here, field-fails, fields-left-on, equality-rule, clause-rule}
 use Rattle.boxes.proofs.settle.settled.Statement.{statement}
 use Rattle.boxes.proofs.settle.settled.Tie as tie
 
 abbrev Inv-loop : tie.InvT-loop
-Inv-loop input v rooms at len from content united i₀ i = AtomsLeft v len i rooms content
+Inv-loop input v rooms at len from content i₀ i = AtomsFrom v len i content
 
 abbrev μ-loop : tie.MeasureT-loop
-μ-loop input v rooms at len from content united i₀ i = len - i
+μ-loop input v rooms at len from content i₀ i = len - i
 
 abbrev Inv-fields : tie.InvT-fields
 Inv-fields input v rooms at₀ at = FieldsLeft input v rooms at
@@ -42,12 +43,6 @@ a-clause c = here (c .before .before) .known (λ e. other (ap (denote.Enum.Decla
   where
     other : {tag : ℕ} → tag ≡ 2 → OneOf (0 ∷ 1 ∷ 3 ∷ []) tag → ⊥
     other e k = ⊎-elim (λ z. omega arith) (⊎-elim (λ z. omega arith) (λ z. omega arith)) k
-
--- the atom that was read is on a position from 1 to 64
-position : (c : tie.After-atom-at Inv-loop μ-loop Inv-fields μ-fields) → (1 ≤ c .atom-at .result .position) × (c .atom-at .result .position ≤ 64)
-position c =
-    let fit = atom-fits (c .before .before .loop .inv) (c .before .loop-test .taken) (c .atom-at .ensures) in
-    (fit .0, omega (arith, fit .1, here (c .before .before .before .before .before .before) .few))
 
 fields-holds : tie.Need-fields-holds Inv-loop μ-loop Inv-fields μ-fields
 fields-holds c = let start = c .before in fields-left-start (start .args .input .now) (start .args .v) (start .args .rooms .now) (start .pre)
@@ -94,16 +89,25 @@ fields-again c =
     let field = here (c .before .before .before .before .before) in
     fields-left-on field (equality-rule field (c .before .before .enum-told .given .1) (c .before .settled-equality .ensures) ∙ not-false _ (c .if1 .left))
 
-united-atoms-requires : tie.Need-united-atoms-requires Inv-loop μ-loop Inv-fields μ-fields
-united-atoms-requires c κs = clause-unites (here (c .before .before)) (a-clause c)
+-- the head of an atom that was read
+abbrev head : tie.After-atom-at Inv-loop μ-loop Inv-fields μ-fields → tie.After-head-at Inv-loop μ-loop Inv-fields μ-fields
+head t = t .before .before .before .before .before
+
+-- the atom is on a position from 1 to 64
+position : (t : tie.After-atom-at Inv-loop μ-loop Inv-fields μ-fields) → (1 ≤ t .atom-at .result .position) × (t .atom-at .result .position ≤ 64)
+position t =
+    let fit = atom-fits (t .before .before .loop .inv) (t .before .loop-test .taken) (t .atom-at .ensures) in
+    (fit .0, omega (arith, fit .1, here (head t) .few))
+
+-- the atom, from the test of its room
+abbrev turn : tie.After-inside Inv-loop μ-loop Inv-fields μ-fields → tie.After-atom-at Inv-loop μ-loop Inv-fields μ-fields
+turn c = c .before .before .before
 
 loop-holds : tie.Need-loop-holds Inv-loop μ-loop Inv-fields μ-fields
-loop-holds c =
-    let fit = here (c .before .before .before) .clause-fits (a-clause (c .before)) in
-    atoms-left-start _ _ _ _ (fit .0) (fit .1)
+loop-holds c = atoms-start (here (c .before .before) .clause-fits (a-clause c))
 
 atom-at-requires : tie.Need-atom-at-requires Inv-loop μ-loop Inv-fields μ-fields
-atom-at-requires c κs = omega (arith, c .before .loop .inv .whole, c .loop-test .taken, here (c .before .before .before .before .before) .long)
+atom-at-requires c κs = omega (arith, atom-there (c .before .loop .inv) (c .loop-test .taken), here (c .before .before .before .before) .long)
 
 cast-p : tie.Need-cast-p Inv-loop μ-loop Inv-fields μ-fields
 cast-p c = omega (arith, position (c .before))
@@ -111,49 +115,54 @@ cast-p c = omega (arith, position (c .before))
 sub-p : tie.Need-sub-p Inv-loop μ-loop Inv-fields μ-fields
 sub-p c = position (c .before) .0
 
-mul-t23 : tie.Need-mul-t23 Inv-loop μ-loop Inv-fields μ-fields
-mul-t23 c = omega (arith, position (c .before))
+mul-t21 : tie.Need-mul-t21 Inv-loop μ-loop Inv-fields μ-fields
+mul-t21 c = omega (arith, position (c .before))
 
-element-copy-out-t26 : tie.Need-element-copy-out-t26 Inv-loop μ-loop Inv-fields μ-fields
-element-copy-out-t26 c = omega (arith, position (c .before))
-
-mul-t23-2 : tie.Need-mul-t23-2 Inv-loop μ-loop Inv-fields μ-fields
-mul-t23-2 c = omega (arith, position (c .before .before))
-
-array-read-t26 : tie.Need-array-read-t26 Inv-loop μ-loop Inv-fields μ-fields
-array-read-t26 c = omega (arith, position (c .before .before))
+element-copy-out-t24 : tie.Need-element-copy-out-t24 Inv-loop μ-loop Inv-fields μ-fields
+element-copy-out-t24 c = omega (arith, position (c .before))
 
 inside-requires : tie.Need-inside-requires Inv-loop μ-loop Inv-fields μ-fields
 inside-requires c κs = tt
 
 fields-less-2 : tie.Need-fields-less-2 Inv-loop μ-loop Inv-fields μ-fields
-fields-less-2 c = omega (arith, here (c .before .before .before .before .before .before .before .before .before .before) .there)
+fields-less-2 c = omega (arith, here (head (turn (c .before))) .there)
 
 fields-again-2 : tie.Need-fields-again-2 Inv-loop μ-loop Inv-fields μ-fields
 fields-again-2 c =
-    let turn = c .before .before .before .before .before in
-    let field = here (turn .before .before .before .before .before) in
+    let t = turn (c .before) in
+    let field = here (head t) in
     fields-left-on field
-    (clause-rule field (a-clause (turn .before .before .before))
-    (atom-settles (turn .before .loop .inv) (turn .loop-test .taken) (c .before .before .before .before .atom-at .ensures) (field .few) (turn .before .before .united-atoms .ensures) (c .before .inside .ensures .result) (c .if2 .taken)))
+    (clause-rule field (a-clause (t .before .before .before))
+    (set-settles (head t .before .before .before .before .args .rooms .now) (t .before .before .loop .inv) (t .before .loop-test .taken) (t .atom-at .ensures) (c .before .inside .ensures .result) (c .if2 .taken)))
 
 add-i : tie.Need-add-i Inv-loop μ-loop Inv-fields μ-fields
 add-i c =
-    let turn = c .before .before .before .before .before in
-    omega (arith, turn .before .loop .inv .whole, turn .loop-test .taken, here (turn .before .before .before .before .before) .there)
+    let t = turn (c .before) in
+    omega (arith, atom-there (t .before .before .loop .inv) (t .before .loop-test .taken), here (head t) .there)
 
 loop-less : tie.Need-loop-less Inv-loop μ-loop Inv-fields μ-fields
 loop-less c = omega arith
 
 loop-again : tie.Need-loop-again Inv-loop μ-loop Inv-fields μ-fields
-loop-again c =
-    let turn = c .before .before .before .before .before in
-    atoms-left-on (turn .before .loop .inv) (turn .loop-test .taken) (c .before .before .before .before .atom-at .ensures) (here (turn .before .before .before .before .before) .few) (turn .before .before .united-atoms .ensures) (c .before .inside .ensures .result) (c .if2 .left)
+loop-again c = let t = turn (c .before) in atoms-on-from (t .before .before .loop .inv) (t .before .loop-test .taken) (t .atom-at .ensures)
+
+settled-united-requires : tie.Need-settled-united-requires Inv-loop μ-loop Inv-fields μ-fields
+settled-united-requires c κs = let keys = c .before .before in here (keys .before .before) .clause-fits (a-clause keys)
 
 returns-2 : tie.Need-returns-2 Inv-loop μ-loop Inv-fields μ-fields
 returns-2 c =
-    let field = here (c .before .before .before .before .before) in
-    sym (field-fails field (clause-rule field (a-clause (c .before .before .before)) (atoms-left-none (c .before .loop .inv) (c .loop-test .left))))
+    let keys = c .before .before .before .before in
+    let field = here (keys .before .before) in
+    sym (field-fails field (clause-rule field (a-clause keys) (sym (c .before .settled-united .ensures) ∙ not-true _ (c .if3 .taken))))
+
+fields-less-3 : tie.Need-fields-less-3 Inv-loop μ-loop Inv-fields μ-fields
+fields-less-3 c = omega (arith, here (c .before .before .before .before .before .before) .there)
+
+fields-again-3 : tie.Need-fields-again-3 Inv-loop μ-loop Inv-fields μ-fields
+fields-again-3 c =
+    let keys = c .before .before .before .before in
+    let field = here (keys .before .before) in
+    fields-left-on field (clause-rule field (a-clause keys) (sym (c .before .settled-united .ensures) ∙ not-false _ (c .if3 .left)))
 
 returns-3 : tie.Need-returns-3 Inv-loop μ-loop Inv-fields μ-fields
 returns-3 c = let start = c .before .before .before in sym (fields-left-none (start .args .input .now) (start .args .v) (start .args .rooms .now) (c .before .fields .at) (c .before .fields .inv) (c .fields-test .left))
@@ -178,20 +187,20 @@ settled-spec =
     returns
     fields-less
     fields-again
-    united-atoms-requires
     loop-holds
     atom-at-requires
     cast-p
     sub-p
-    mul-t23
-    element-copy-out-t26
-    mul-t23-2
-    array-read-t26
+    mul-t21
+    element-copy-out-t24
     inside-requires
     fields-less-2
     fields-again-2
     add-i
     loop-less
     loop-again
+    settled-united-requires
     returns-2
+    fields-less-3
+    fields-again-3
     returns-3)

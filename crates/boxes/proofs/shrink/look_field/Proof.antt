@@ -39,13 +39,10 @@ enum-told c = search needs
 enum-told-2 : tie.Need-enum-told-2
 enum-told-2 c = search needs
 
-united-atoms-requires : tie.Need-united-atoms-requires
-united-atoms-requires c κs =
-    let here = c .before .before .before in
-    clause-there (headed here) (here .before .before .pre .1) (c .enum-told2 .given .1)
-
-look-united-requires : tie.Need-look-united-requires
-look-united-requires c κs = search needs
+look-atoms-requires : tie.Need-look-atoms-requires
+look-atoms-requires c κs =
+    let here = c .before .before .before .before in
+    clause-there (headed here) (here .before .before .pre .1) (c .before .enum-told2 .given .1)
 
 enum-told-3 : tie.Need-enum-told-3
 enum-told-3 c = search needs
@@ -64,11 +61,9 @@ returns c = absurd (no-header-there (headed (c .before .before .before)) (c .enu
 
 returns-2 : tie.Need-returns-2
 returns-2 c place =
-    let told = c .before .before .before .before in
-    let here = told .before .before .before in
-    let start = here .before .before in
-    look-clause-there (headed here) (start .args .rooms .now) (c .look-united .last .0) (c .look-united .result) place
-    (c .before .before .before .united-atoms .result) (start .pre .1) (told .enum-told2 .given .1) (c .before .before .before .united-atoms .ensures) (c .look-united .ensures)
+    let here = c .before .before .before .before .before in
+    look-clause-there (headed here) (here .before .before .args .rooms .now) (c .look-atoms .last .0) (c .look-atoms .result) place
+    (c .before .before .enum-told2 .given .1) (c .look-atoms .ensures place)
 
 returns-3 : tie.Need-returns-3
 returns-3 c place =
@@ -90,8 +85,7 @@ look-field-spec =
     part-content-end
     enum-told
     enum-told-2
-    united-atoms-requires
-    look-united-requires
+    look-atoms-requires
     enum-told-3
     look-equality-requires
     enum-told-4
