@@ -1,23 +1,14 @@
 -- Laws of the atoms of a clause, taken one after the other from the front of its content. Assumes nothing.
 use mathlib.Core.Path.{_≡_, refl, sym, ap, ap₂, _∙_, subst}
 use mathlib.Core.List.{List, [], _∷_, List·Memᴰ, List·Memᴰ·head, List·Memᴰ·tail}
-use Prim.Native.Nat.{ℕ, _+_, _-_, _*_, _/_, _≤_, _<_}
+use Prim.Native.Nat.{ℕ, _+_, _-_, _/_, _≤_, _<_}
 use native.Mathlib.Omega.{arith}
 use lib.ListN.{drop}
 use Rattle.rules.specs.declared.field.Atom.{Atom}
 use Rattle.rules.specs.Reading.{atomOf, atomsOf}
 use Rattle.rules.proofs.WalkLaws.{atoms-on}
 use Rattle.boxes.specs.United.{AtomsFit, Atoms}
-
--- the atoms from i on, of a clause of so many bytes
-abbrev pub atomsFrom : ℕ → ℕ → List ℕ → List Atom
-atomsFrom len i content = atomsOf ((len - i) / 5) (drop i content)
-
--- they are whole, each is on a position from 1 to v, and all are atoms of the clause
-pub record AtomsFrom (v len i : ℕ) (content : List ℕ) : Type 0 where
-  pub whole : i + (len - i) / 5 * 5 ≡ len
-  pub fit : AtomsFit v (atomsFrom len i content)
-  pub among : (a : Atom) → List·Memᴰ a (atomsFrom len i content) → List·Memᴰ a (atomsOf (len / 5) content)
+use Rattle.boxes.specs.Scans.{atomsFrom, AtomsFrom}
 
 -- at the start all atoms are to come
 pub atoms-all : (len : ℕ) (content : List ℕ) → atomsFrom len 0 content ≡ atomsOf (len / 5) content

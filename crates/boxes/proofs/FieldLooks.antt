@@ -4,7 +4,7 @@ use mathlib.Core.Bool.{Bool}
 use mathlib.Core.List.{List}
 use Prim.Native.Nat.{ℕ, _+_, _-_, _*_, _/_, _≤_, _<_}
 use native.Mathlib.Omega.{arith}
-use lib.ListN.{length, take, drop, length-take, length-drop}
+use lib.ListN.{length, take, drop, length-drop}
 use Rattle.rules.specs.declared.field.Atom.{Atom}
 use Rattle.rules.specs.declared.field.Head.{Head}
 use Rattle.rules.specs.declared.field.Tag.{Tag}

@@ -3,22 +3,25 @@ use mathlib.Core.Path.{_≡_, refl, sym, ap, ap₂, _∙_, subst, subst₂}
 use mathlib.Core.Logic.{_⊎_, inl, inr, ⊎-elim}
 use mathlib.Core.Bool.{Bool, true, false}
 use mathlib.Core.List.{List, [], _∷_, _++_, append-nil, append-assoc}
-use Prim.Native.Nat.{ℕ, _+_, _-_, _≤_, _<_}
+use Prim.Native.Nat.{ℕ, zero, suc, _+_, _-_, _/_, _≤_, _<_}
 use native.Mathlib.Decide.{ℕ-discrete, decLe}
 use native.Mathlib.Omega.{arith}
 use lib.Dec.{eqb, not-T}
-use lib.ListN.{length, getD, set, take, drop, length-take, take-append-drop, List·getD-eq-default}
+use lib.ListN.{length, getD, set, take, drop, take-append-drop, List·getD-eq-default}
 use lib.Seq.{getD-take, set-append-left}
 use borrow.Author.Tests.{eq-eqb, ne-eqb}
 use Rattle.sets.specs.Sets.{member, union, common, isEmpty}
 use Rattle.sets.proofs.Members.{member-empty, member-union, member-common}
 use Rattle.sets.proofs.Sameness.{member-extensional, no-member-empty, empty-test}
 use Rattle.rules.specs.declared.field.Atom.{Atom}
+use Rattle.rules.specs.Reading.{atomOf, atomsOf}
 use Rattle.steps.specs.Boxes.{roomAt, withRoom}
 use Rattle.steps.specs.Shrinking.{Look, dead, alive, uniteIf, united, isLive, cut, lookClause}
 use Rattle.steps.proofs.LiveLaws.{live-not-empty}
 use Rattle.steps.proofs.ClauseLaws.{LiveIn, Looked as Found, none-live, one-live, more-live, looked}
 use Rattle.boxes.specs.United.{Looked}
+use Rattle.boxes.specs.Scans.{atomsFrom, AtomsFrom, sharedIn, Scanned, cutTo}
+use Rattle.boxes.proofs.AtomsInTurn.{atoms-next, atom-fits}
 
 -- ---- unions and what they share
 
@@ -58,7 +61,7 @@ empty-common : (m : ℕ) → common 0 m ≡ 0
 empty-common m = no-member-empty (common 0 m) λ x t. member-empty x (member-common x 0 m .0 t .0)
 
 -- where a union is empty both sets are
-left-empty : (a b : ℕ) → union a b ≡ 0 → a ≡ 0
+pub left-empty : (a b : ℕ) → union a b ≡ 0 → a ≡ 0
 left-empty a b e = no-member-empty a λ x t. member-empty x (subst (member x) e (member-union x a b .1 (inl t)))
 
 right-empty : (a b : ℕ) → union a b ≡ 0 → b ≡ 0
@@ -75,10 +78,6 @@ united-append q (a ∷ xs) ys = go (eqb (a .position) q) (united-append q xs ys)
     go : (b : Bool) → united q (xs ++ ys) ≡ union (united q xs) (united q ys) → uniteIf b (a .set) (united q (xs ++ ys)) ≡ union (uniteIf b (a .set) (united q xs)) (united q ys)
     go true e = ap (union (a .set)) e ∙ union-assoc (a .set) (united q xs) (united q ys)
     go false e = e
-
--- what the room of a position shares with its sets among these atoms
-abbrev pub sharedIn : List ℕ → List Atom → ℕ → ℕ
-sharedIn box atoms q = common (roomAt box q) (united q atoms)
 
 shared-append : (box : List ℕ) (xs ys : List Atom) (q : ℕ) → sharedIn box (xs ++ ys) q ≡ union (sharedIn box xs q) (sharedIn box ys q)
 shared-append box xs ys q = ap (common (roomAt box q)) (united-append q xs ys) ∙ common-union (roomAt box q) (united q xs) (united q ys)
@@ -106,13 +105,6 @@ shared-live box atoms q low shares = (low, there (decLe q (length box)), not-T (
         absurd (shares (ap (λ (room : ℕ). common room (united q atoms)) (List·getD-eq-default box 0 past) ∙ empty-common (united q atoms)))
 
 -- ---- the scan
-
--- Of all the atoms of a clause these are left: in those passed no position is live but the one above an index, whose room shares this with its sets there.
-pub record Scanned (all left : List Atom) (box : List ℕ) (live kept : ℕ) : Type 0 where
-  pub passed : List Atom
-  pub parts : all ≡ passed ++ left
-  pub others : (q : ℕ) → (q ≡ live + 1 → ⊥) → sharedIn box passed q ≡ 0
-  pub here : kept ≡ sharedIn box passed (live + 1)
 
 -- at the start all are left, and nothing is met
 pub scan-starts : {all left : List Atom} (box : List ℕ) (live : ℕ) → left ≡ all → Scanned all left box live 0
@@ -273,3 +265,30 @@ module _ (v : ℕ) (rooms : List ℕ) (l : Look) where
         refl,
         ap (λ (rs : List ℕ). set rs i m) (sym (take-append-drop v rooms)) ∙ set-append-left (take v rooms) (drop v rooms) i m there,
       )
+
+-- what a cut leaves
+pub cut-none : (m i : ℕ) (box : List ℕ) → m ≡ 0 → cutTo m i box ≡ box
+unfolding cutTo
+cut-none m i box e = ap (λ (k : ℕ). cutTo k i box) e
+
+pub cut-some : (m i : ℕ) (box : List ℕ) → (m ≡ 0 → ⊥) → cutTo m i box ≡ set box i m
+unfolding cutTo
+cut-some zero i box ne = absurd (ne refl)
+cut-some (suc m) i box ne = refl
+
+-- ---- a turn of the scan over the atoms of a content, at the first v rooms of an array
+
+module _ {v len i : ℕ} {content : List ℕ} (from : AtomsFrom v len i content) (there : i < len) {a : Atom} (here : a ≡ atomOf (drop i content)) (rooms : List ℕ)
+    {shared : ℕ} (meets : shared ≡ common (getD rooms (a .position - 1) 0) (a .set)) {live kept : ℕ}
+    (scanned : Scanned (atomsOf (len / 5) content) (atomsFrom len i content) (take v rooms) live kept) where
+  meets-room : shared ≡ common (roomAt (take v rooms) (a .position)) (a .set)
+  meets-room = let fit = atom-fits from there here in meets ∙ meets-front v (a .position) (a .set) rooms (fit .0) (fit .1)
+
+  pub turn-passes : shared ≡ 0 → Scanned (atomsOf (len / 5) content) (atomsFrom len (i + 5) content) (take v rooms) live kept
+  turn-passes none = scan-passes scanned (atoms-next from there here) meets-room none
+
+  pub turn-meets : (kept ≡ 0) ⊎ (a .position - 1 ≡ live) → Scanned (atomsOf (len / 5) content) (atomsFrom len (i + 5) content) (take v rooms) (a .position - 1) (union kept shared)
+  turn-meets alone = scan-meets scanned (atoms-next from there here) meets-room (atom-fits from there here .0) alone
+
+  pub turn-several : (place : ℕ) → (kept ≡ 0 → ⊥) → (a .position - 1 ≡ live → ⊥) → (shared ≡ 0 → ⊥) → lookClause place (atomsOf (len / 5) content) (take v rooms) ≡ alive (take v rooms)
+  turn-several place has other shares = scan-several scanned (atoms-next from there here) meets-room place (atom-fits from there here .0) has other shares

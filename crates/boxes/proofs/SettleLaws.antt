@@ -3,7 +3,7 @@ use mathlib.Core.Path.{_≡_, refl, sym, ap, ap₂, _∙_, subst, subst₂}
 use mathlib.Core.Logic.{⊎-elim}
 use mathlib.Core.Bool.{Bool, true, false, _&&_, _||_, and-assoc, and-true, or-false}
 use mathlib.Core.List.{List, [], _∷_, _++_, map, List·Memᴰ, List·Memᴰ·head, List·Memᴰ·tail, List·Memᴰ·not-nil, List·Memᴰ·cases-cons}
-use Prim.Native.Nat.{ℕ, suc, _+_, _-_, _*_, _/_, _^_, _≤_, _<_}
+use Prim.Native.Nat.{ℕ, suc, _+_, _-_, _/_, _^_, _≤_, _<_}
 use lib.Dec.{T}
 use native.Mathlib.Numerals.{add-one}
 use native.Mathlib.Omega.{arith}
@@ -17,7 +17,6 @@ use Rattle.rules.specs.declared.field.Atom.{Atom}
 use Rattle.rules.specs.declared.field.Head.{Head}
 use Rattle.rules.specs.declared.field.Tag.{Tag}
 use Rattle.rules.specs.declared.field.Tag.the-variants.{Header, Clause, Equality, Unknown}
-use Rattle.rules.specs.Lists.{Every}
 use Rattle.rules.specs.Rules.{Rule, Field}
 use Rattle.rules.specs.Reading.{atomOf, atomsOf, headOf, ruleOf, setAt, sizeOf, fieldFault, reading}
 use Rattle.rules.specs.Clauses.{atomIn, equalityClauses, clausesOf}
@@ -29,8 +28,9 @@ use Rattle.steps.proofs.BoxLaws.{every-at-place}
 use Rattle.steps.proofs.LiveLaws.{member-united}
 use Rattle.boxes.specs.United.{PositionsFit, AtomsFit, Atoms, unitedSets}
 use Rattle.boxes.specs.Rooms.{everyInside, someInside, fileOf, fieldsIn, SoundInput}
+use Rattle.boxes.specs.Scans.{atomsFrom, AtomsFrom}
 use Rattle.boxes.proofs.UnitedLaws.{united-sets-at}
-use Rattle.boxes.proofs.AtomsInTurn.{atomsFrom, AtomsFrom, atoms-all, atoms-start, atoms-end, atoms-next, atom-fits, atom-listed, atoms-on-from}
+use Rattle.boxes.proofs.AtomsInTurn.{atoms-all, atoms-start, atoms-end, atoms-next, atom-fits, atom-listed, atoms-on-from}
 use Rattle.boxes.proofs.InputLaws.{sound-limits, sound-rest, field-there, rule-here, no-header-here, no-unknown-here, clause-here, equality-here}
 
 -- ---- tests in a row

@@ -1,20 +1,18 @@
 -- Laws of the list of united sets: its elements, and how it grows by an atom. Assumes nothing.
 use mathlib.Core.Path.{_≡_, refl, sym, ap, ap₂, _∙_, subst}
-use mathlib.Core.Bool.{Bool, true, false, not}
-use mathlib.Core.List.{List, [], _∷_, _++_, map}
+use mathlib.Core.List.{List, [], _∷_}
 use Prim.Native.Nat.{ℕ, zero, suc, _+_, _-_, _*_, _≤_, _<_}
 use native.Mathlib.Nat.{add-zero}
-use native.Mathlib.Decide.{decLt, ℕ-discrete}
+use native.Mathlib.Decide.{ℕ-discrete}
 use native.Mathlib.Omega.{arith}
 use lib.ListN.{length, getD, drop, set, replicate, length-set}
-use lib.Seq.{getD-set-same, getD-set-other, ext-getD, set-out, drop-drop}
+use lib.Seq.{getD-set-same, getD-set-other, ext-getD, drop-drop}
 use borrow.Author.Tests.{eq-eqb, ne-eqb}
-use Rattle.sets.specs.Sets.{union, common, isEmpty}
+use Rattle.sets.specs.Sets.{union}
 use Rattle.rules.specs.declared.field.Atom.{Atom}
 use Rattle.rules.specs.Lists.{Every}
 use Rattle.rules.specs.Reading.{atomOf, atomsOf}
-use Rattle.steps.specs.Boxes.{roomAt, withRoom}
-use Rattle.steps.specs.Shrinking.{uniteIf, united, isLive, liveFrom, cut, lookBy, lookClause}
+use Rattle.steps.specs.Shrinking.{uniteIf, united}
 use Rattle.boxes.specs.United.{unitedFrom, unitedSets, AtomsFit}
 
 -- ---- the list by its elements

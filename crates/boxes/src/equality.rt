@@ -1,10 +1,9 @@
 // Looking at a set equality, as the clauses that it means: for each named position "it is in M",
 // then for each value of M, rising, "one of the named positions is in it". The contracts cite
 // specs/United.antt and the search of `steps`.
-ghost use mathlib.Core.Path.{_≡_};
 ghost use mathlib.Core.List.{_∷_, [], map};
-ghost use Prim.Native.Nat.{ℕ, _+_, _-_, _*_, _≤_, _<_};
-ghost use lib.ListN.{length, getD, set, take, drop};
+ghost use Prim.Native.Nat.{ℕ, _-_, _≤_, _<_};
+ghost use lib.ListN.{length, take, drop};
 ghost use Rattle.sets.specs.Sets.{single, values};
 ghost use Rattle.rules.specs.Clauses.{atomIn};
 ghost use Rattle.rules.specs.Reading.{ruleOf};

@@ -8,3 +8,4 @@ pub mod clause;
 pub mod equality;
 pub mod settle;
 pub mod shrink;
+pub mod united;

@@ -2,16 +2,16 @@
 // atom that shows it. The contracts cite the search of `steps`.
 ghost use mathlib.Core.Path.{_≡_};
 ghost use mathlib.Core.List.{map};
-ghost use Prim.Native.Nat.{ℕ, _+_, _-_, _/_, _≤_, _<_};
+ghost use Prim.Native.Nat.{_+_, _-_, _/_, _≤_, _<_};
 ghost use lib.ListN.{length, take, drop};
 ghost use Rattle.sets.specs.Sets.{single, values};
 ghost use Rattle.rules.specs.Clauses.{atomIn};
 ghost use Rattle.rules.specs.Reading.{ruleOf, atomsOf};
 ghost use Rattle.rules.specs.declared.field.Tag.the-variants.{Equality};
-ghost use Rattle.steps.specs.Shrinking.{settledBy, settledClause, settledClauses, settledRule, settled};
+ghost use Rattle.steps.specs.Shrinking.{settledClause, settledClauses, settledRule, settled};
 ghost use Rattle.boxes.specs.United.{PositionsFit, Atoms};
 ghost use Rattle.boxes.specs.Rooms.{SoundInput, fieldsIn, everyInside, someInside};
-use super::clause::united_atoms;
+use super::united::united_atoms;
 use rules::field::Tag;
 use rules::field::atom_at;
 use rules::field::head_at;

@@ -1,7 +1,6 @@
 // Shrinking a box: rounds over all fields of a sound file, read from the input's own bytes, until
 // one changes nothing or finds a dead field. The contracts cite specs/Rooms.antt.
 ghost use mathlib.Core.Path.{_≡_};
-ghost use mathlib.Core.Logic.{_⊎_};
 ghost use Prim.Native.Nat.{ℕ, _+_, _≤_, _<_};
 ghost use lib.ListN.{length, take, drop};
 ghost use Rattle.rules.specs.Reading.{fieldFault, ruleAt};

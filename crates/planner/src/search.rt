@@ -1,7 +1,7 @@
 // The search of a box, which calls itself on both halves of a split. The contracts cite the search
 // of `steps` and specs/Found.antt.
 ghost use mathlib.Core.Path.{_≡_};
-ghost use Prim.Native.Nat.{suc, _+_, _≤_};
+ghost use Prim.Native.Nat.{suc, _+_};
 ghost use lib.ListN.{take};
 ghost use Rattle.steps.specs.Boxes.{openValues, Rooms};
 ghost use Rattle.steps.specs.Search.{search};

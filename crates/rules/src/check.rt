@@ -5,7 +5,7 @@ ghost use mathlib.Core.Bool.{true, _&&_};
 ghost use lib.Dec.{leb};
 ghost use Prim.Native.Nat.{_+_, _*_, _≤_};
 ghost use lib.ListN.{length, take, drop};
-ghost use Rattle.rules.specs.Reading.{orElse, atomsOf, ruleOf, lengthFits, positionFault, setFault, atomFault, atomsFault, positionsFault, ruleFault, contentOf, fieldFault, headerFault, readFields, reading, limitsFit};
+ghost use Rattle.rules.specs.Reading.{orElse, atomsOf, ruleOf, lengthFits, positionFault, setFault, atomFault, atomsFault, positionsFault, ruleFault, fieldFault, headerFault, readFields, reading};
 ghost use Rattle.rules.specs.Checked.{tagFault, bodyFault, headerBodyFault, checkedOf};
 use super::field::Atom;
 use super::field::Tag;

@@ -8,8 +8,9 @@ use lib.ListN.{getD, take, drop, length-take}
 use Rattle.sets.specs.Sets.{common}
 use Rattle.rules.specs.Clauses.{atomIn}
 use Rattle.steps.specs.Boxes.{roomAt}
+use Rattle.boxes.specs.Scans.{Scanned}
 use Rattle.boxes.proofs.LooksInTurn.{look-one}
-use Rattle.boxes.proofs.ScanLaws.{Scanned, scan-starts, scan-as, scan-passes, scan-meets, scan-several, scan-there, scan-dead, scan-cuts, meets-front, looked-dead, looked-same, looked-set}
+use Rattle.boxes.proofs.ScanLaws.{scan-starts, scan-as, scan-passes, scan-meets, scan-several, scan-there, scan-dead, scan-cuts, meets-front, looked-dead, looked-same, looked-set}
 use Rattle.boxes.proofs.EqualityLooks.{next-position, no-position, position-fits}
 use Rattle.boxes.proofs.equality.look_any.Statement.{statement}
 use Rattle.boxes.proofs.equality.look_any.Tie as tie

@@ -1,5 +1,5 @@
 -- `boxes::settle::settled_united` meets its contract. The loop: whether one of the atoms from `at` on shows the clause settled decides; the measure is what is left of its bytes. Assumes nothing.
-use mathlib.Core.Path.{_≡_, sym}
+use mathlib.Core.Path.{sym}
 use Prim.Native.Nat.{_-_, _≤_}
 use native.Mathlib.Omega.{arith}
 use Rattle.boxes.proofs.AtomsInTurn.{atom-there, atom-fits}

@@ -1,4 +1,4 @@
--- `boxes::clause::united_atoms` meets its contract. The loop goes from the last atom to the first: the list is that of the atoms from `left` on; the measure is `left`. Assumes nothing.
+-- `boxes::united::united_atoms` meets its contract. The loop goes from the last atom to the first: the list is that of the atoms from `left` on; the measure is `left`. Assumes nothing.
 use mathlib.Core.Path.{_≡_, _∙_}
 use Prim.Native.Nat.{_-_, _*_, _≤_}
 use native.Mathlib.Omega.{arith}
@@ -6,8 +6,8 @@ use lib.ListN.{drop}
 use Rattle.rules.specs.Reading.{atomsOf}
 use Rattle.boxes.specs.United.{unitedSets}
 use Rattle.boxes.proofs.UnitedLaws.{atom-fits, united-before, united-all, united-end}
-use Rattle.boxes.proofs.clause.united_atoms.Statement.{statement}
-use Rattle.boxes.proofs.clause.united_atoms.Tie as tie
+use Rattle.boxes.proofs.united.united_atoms.Statement.{statement}
+use Rattle.boxes.proofs.united.united_atoms.Tie as tie
 
 abbrev Inv-loop : tie.InvT-loop
 Inv-loop content count united₀ left₀ united left = (left ≤ count) × (united ≡ unitedSets (atomsOf (count - left) (drop (left * 5) content)))

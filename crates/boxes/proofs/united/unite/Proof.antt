@@ -1,10 +1,10 @@
--- `boxes::clause::unite` meets its contract: what is stored at the position's index is the union that the call gives. Assumes nothing.
+-- `boxes::united::unite` meets its contract: what is stored at the position's index is the union that the call gives. Assumes nothing.
 use mathlib.Core.Path.{ap}
 use Prim.Native.Nat.{ℕ, _-_}
 use lib.ListN.{set}
 use borrow.Author.Needs.{needs}
-use Rattle.boxes.proofs.clause.unite.Statement.{statement}
-use Rattle.boxes.proofs.clause.unite.Tie as tie
+use Rattle.boxes.proofs.united.unite.Statement.{statement}
+use Rattle.boxes.proofs.united.unite.Tie as tie
 
 sub-i : tie.Need-sub-i
 sub-i c = search needs
