@@ -58,9 +58,39 @@ goes-on spec.none o f e = refl
 goes-on spec.undecided o f e = let z : _≡_ {A = ℕ} 0 1 = cc in absurd (omega arith)
 goes-on spec.stalled o f e = let z : _≡_ {A = ℕ} 0 1 = cc in absurd (omega arith)
 
-module _ (fields : List Field) (v : ℕ) (rooms : List ℕ) (small : v ≤ 64) (long : length rooms ≡ 64) (full : Rooms (take v rooms)) where
+-- what a call of the search is given
+pub record Given : Type 0 where
+  pub fields : List Field
+  pub v : ℕ
+  pub rooms : List ℕ
+  pub allowed : ℕ
+  pub splits : ℕ
+  pub deadEnds : ℕ
+  pub small : v ≤ 64
+  pub long : length rooms ≡ 64
+  pub full : Rooms (take v rooms)
+
+module _ (given : Given) where
+  abbrev fields : List Field
+  fields = given .fields
+
+  abbrev v : ℕ
+  v = given .v
+
+  abbrev rooms : List ℕ
+  rooms = given .rooms
+
+  abbrev allowed : ℕ
+  allowed = given .allowed
+
+  abbrev s : ℕ
+  s = given .splits
+
+  abbrev d : ℕ
+  d = given .deadEnds
+
   box-length : length (take v rooms) ≡ v
-  box-length = length-take-le v rooms (omega arith)
+  box-length = length-take-le v rooms (omega (arith, given .small, given .long))
 
   -- the saved rooms of a box that lives: the first v of them are the shrunk box, v of them
   pub record Saved (saved : List ℕ) : Type 0 where
@@ -70,7 +100,7 @@ module _ (fields : List Field) (v : ℕ) (rooms : List ℕ) (small : v ≤ 64) (
   pub saved-of : (r : Shrunk) → r ≡ shrunkRooms (shrunk fields (take v rooms)) (drop v rooms) → r .verdict ≡ Alive → Saved (r .rooms)
   saved-of r e d =
       let found = shrunk-alive (shrunk fields (take v rooms)) (drop v rooms) r e d in
-      let same : length (found .0) ≡ v = box-inside-length (found .0) (take v rooms) (shrunk-inside 0 (omega arith) fields (take v rooms) (found .0) full (found .1) .0) ∙ box-length in
+      let same : length (found .0) ≡ v = box-inside-length (found .0) (take v rooms) (shrunk-inside 0 (omega arith) fields (take v rooms) (found .0) (given .full) (found .1) .0) ∙ box-length in
       let front : take v (r .rooms) ≡ found .0 = ap (take v) (found .2) ∙ take-at (found .0) (drop v rooms) v same in
       record { shrank = found .1 ∙ ap alive (sym front); length-v = ap length front ∙ same }
 
@@ -88,114 +118,120 @@ module _ (fields : List Field) (v : ℕ) (rooms : List ℕ) (small : v ≤ 64) (
 
   -- ---- the ends of a box that is not split
 
-  module _ (allowed s d : ℕ) where
-    -- what the search of the box finds
-    abbrev whole : Outcome
-    whole = search (suc (openValues (take v rooms))) fields allowed (take v rooms) s d
+  -- what the search of the box finds
+  abbrev whole : Outcome
+  whole = search (suc (openValues (take v rooms))) fields allowed (take v rooms) s d
 
-    by-case : (c : Case fields (take v rooms)) → whole ≡ searchIn fields (openValues (take v rooms)) allowed s d c
-    by-case c = search-case fields (openValues (take v rooms)) allowed s d (take v rooms) c
+  by-case : (c : Case fields (take v rooms)) → whole ≡ searchIn fields (openValues (take v rooms)) allowed s d c
+  by-case c = search-case fields (openValues (take v rooms)) allowed s d (take v rooms) c
 
-    pub ends-dead : (place : ℕ) → shrunk fields (take v rooms) ≡ dead place
-        → record { answer = None; values = replicate 64 0; splits = s; «dead_ends» = d + 1 } ≡ foundOf whole
+  pub ends-dead : (place : ℕ) → shrunk fields (take v rooms) ≡ dead place
+      → record { answer = None; values = replicate 64 0; splits = s; «dead_ends» = d + 1 } ≡ foundOf whole
+  unfolding foundOf outcome answerOf valuesIn
+  ends-dead place e = sym (ap foundOf (by-case (dies place e)))
+
+  pub ends-settled : {saved : List ℕ} → Saved saved → (values : List ℕ) → settled fields (take v saved) ≡ true → values ≡ smallestOf (take v saved) ++ replicate (64 - v) 0
+      → record { answer = Plan; values = values; splits = s; «dead_ends» = d } ≡ foundOf whole
+  unfolding foundOf outcome answerOf valuesIn smallestOf
+  ends-settled {saved} kept values t e =
+      (λ i. record { answer = Plan; values = (e ∙ ap (λ (k : ℕ). smallestOf (take v saved) ++ replicate (64 - k) 0) (sym (length-map (take v saved) smallest ∙ kept .length-v))) i; splits = s; «dead_ends» = d })
+      ∙ sym (ap foundOf (by-case (settles (take v saved) (kept .shrank) t)))
+
+  pub ends-stalled : {saved : List ℕ} → Saved saved → (i : ℕ) → settled fields (take v saved) ≡ false → i ≡ chosen (take v saved) → v ≤ i
+      → record { answer = Stalled; values = replicate 64 0; splits = s; «dead_ends» = d } ≡ foundOf whole
+  unfolding foundOf outcome answerOf valuesIn
+  ends-stalled {saved} kept i u e l = let same = kept .length-v in sym (ap foundOf (by-case (stalls (take v saved) (kept .shrank) u (omega arith))))
+
+  -- ---- a box that is split at an index
+
+  pub record Split (saved : List ℕ) (i : ℕ) : Type 0 where
+    pub kept : Saved saved
+    pub unsettled : settled fields (take v saved) ≡ false
+    pub at : i ≡ chosen (take v saved)
+    pub there : i < v
+
+  module _ {saved : List ℕ} {i : ℕ} (split : Split saved i) where
+    divided : chosen (take v saved) < length (take v saved)
+    divided = omega (arith, split .kept .length-v, split .at, split .there)
+
+    -- the parts of the split
+    pub parts : Parts (take v rooms) (take v saved)
+    parts = parts-of 0 (omega arith) fields (take v rooms) (take v saved) (given .full) (split .kept .shrank) divided
+
+    -- the search of the first part, and of the other with the counts so far
+    abbrev pub begun : Outcome
+    begun = search (openValues (take v rooms)) fields allowed (firstPart (take v saved)) (s + 1) d
+
+    abbrev later : ℕ → ℕ → Outcome
+    later = search (openValues (take v rooms)) fields allowed (otherPart (take v saved))
+
+    by-test : (t : Bool) → leb allowed s ≡ t → whole ≡ ifTest t (outcome undecided s d) (λ _. ifNone (begun .answer) begun later)
+    by-test t e =
+        by-case (divides (take v saved) (split .kept .shrank) (split .unsettled) divided)
+        ∙ ap (λ (u : Bool). ifTest u (outcome undecided s d) (λ _. ifNone (begun .answer) begun later)) e
+
+    pub ends-undecided : allowed ≤ s → record { answer = Undecided; values = replicate 64 0; splits = s; «dead_ends» = d } ≡ foundOf whole
     unfolding foundOf outcome answerOf valuesIn
-    ends-dead place e = sym (ap foundOf (by-case (dies place e)))
+    ends-undecided l = sym (ap foundOf (by-test true (le-leb allowed s l)))
 
-    module _ (saved : List ℕ) (kept : Saved saved) where
-      pub ends-settled : (values : List ℕ) → settled fields (take v saved) ≡ true → values ≡ smallestOf (take v saved) ++ replicate (64 - v) 0
-          → record { answer = Plan; values = values; splits = s; «dead_ends» = d } ≡ foundOf whole
-      unfolding foundOf outcome answerOf valuesIn smallestOf
-      ends-settled values t e =
-          (λ i. record { answer = Plan; values = (e ∙ ap (λ (k : ℕ). smallestOf (take v saved) ++ replicate (64 - k) 0) (sym (length-map (take v saved) smallest ∙ kept .length-v))) i; splits = s; «dead_ends» = d })
-          ∙ sym (ap foundOf (by-case (settles (take v saved) (kept .shrank) t)))
+    first-same : take v (firstHalf i saved) ≡ firstPart (take v saved)
+    first-same = first-front saved i (split .there) ∙ ap (λ (j : ℕ). firstHalf j (take v saved)) (split .at)
 
-      pub ends-stalled : (i : ℕ) → settled fields (take v saved) ≡ false → i ≡ chosen (take v saved) → v ≤ i
-          → record { answer = Stalled; values = replicate 64 0; splits = s; «dead_ends» = d } ≡ foundOf whole
-      unfolding foundOf outcome answerOf valuesIn
-      ends-stalled i u e l = let same = kept .length-v in sym (ap foundOf (by-case (stalls (take v saved) (kept .shrank) u (omega arith))))
+    other-same : take v (otherHalf i saved) ≡ otherPart (take v saved)
+    other-same = other-front saved i (split .there) ∙ ap (λ (j : ℕ). otherHalf j (take v saved)) (split .at)
 
-      module _ (i : ℕ) (unsettled : settled fields (take v saved) ≡ false) (at : i ≡ chosen (take v saved)) (there : i < v) where
-        divided : chosen (take v saved) < length (take v saved)
-        divided = let same = kept .length-v in omega arith
+    -- the first part's search, however deep it may go
+    begun-enough : search (suc (openValues (firstPart (take v saved)))) fields allowed (firstPart (take v saved)) (s + 1) d ≡ begun
+    begun-enough =
+        search-enough 0 (omega arith) fields (suc (openValues (firstPart (take v saved)))) (openValues (take v rooms)) allowed (s + 1) d (firstPart (take v saved))
+        (parts .firstRooms) (omega arith) (parts .firstFalls)
 
-        -- the parts of the split
-        pub parts : Parts (take v rooms) (take v saved)
-        parts = parts-of 0 (omega arith) fields (take v rooms) (take v saved) full (kept .shrank) divided
+    later-enough : (t e : ℕ) → search (suc (openValues (otherPart (take v saved)))) fields allowed (otherPart (take v saved)) t e ≡ later t e
+    later-enough t e =
+        search-enough 0 (omega arith) fields (suc (openValues (otherPart (take v saved)))) (openValues (take v rooms)) allowed t e (otherPart (take v saved))
+        (parts .otherRooms) (omega arith) (parts .otherFalls)
 
-        -- the search of the first part, and of the other with the counts so far
-        abbrev pub begun : Outcome
-        begun = search (openValues (take v rooms)) fields allowed (firstPart (take v saved)) (s + 1) d
+    -- what the code found in the first part is what the search finds there
+    pub first-found : (r : Found) → r ≡ foundOf (search (suc (openValues (take v (firstHalf i saved)))) fields allowed (take v (firstHalf i saved)) (s + 1) d) → r ≡ foundOf begun
+    first-found r e = e ∙ ap (λ (half : List ℕ). foundOf (search (suc (openValues half)) fields allowed half (s + 1) d)) first-same ∙ ap foundOf begun-enough
 
-        abbrev later : ℕ → ℕ → Outcome
-        later = search (openValues (take v rooms)) fields allowed (otherPart (take v saved))
+    -- an answer of the first part that is not NONE is the answer
+    pub ends-first : (r : Found) → r ≡ foundOf begun → s < allowed → (r .answer ≡ None → ⊥) → r ≡ foundOf whole
+    unfolding foundOf
+    ends-first r e h ne =
+        e ∙ ap foundOf (sym (by-test false (lt-leb allowed s h) ∙ stays (begun .answer) begun later (λ n. ne (ap (λ (f : Found). f .answer) e ∙ n))))
 
-        by-test : (t : Bool) → leb allowed s ≡ t → whole ≡ ifTest t (outcome undecided s d) (λ _. ifNone (begun .answer) begun later)
-        by-test t e =
-            by-case (divides (take v saved) (kept .shrank) unsettled divided)
-            ∙ ap (λ (u : Bool). ifTest u (outcome undecided s d) (λ _. ifNone (begun .answer) begun later)) e
+    -- where it is NONE the other part's answer is
+    pub ends-second : (r q : Found) → r ≡ foundOf begun → s < allowed → r .answer ≡ None
+        → q ≡ foundOf (search (suc (openValues (take v (otherHalf i saved)))) fields allowed (take v (otherHalf i saved)) (r .splits) (r .«dead_ends»)) → q ≡ foundOf whole
+    unfolding foundOf
+    ends-second r q e h n f =
+        f ∙ ap (λ (half : List ℕ). foundOf (search (suc (openValues half)) fields allowed half (r .splits) (r .«dead_ends»))) other-same
+        ∙ ap foundOf (later-enough (r .splits) (r .«dead_ends»))
+        ∙ ap₂ (λ (t u : ℕ). foundOf (later t u)) (ap (λ (g : Found). g .splits) e) (ap (λ (g : Found). g .«dead_ends») e)
+        ∙ ap foundOf (sym (by-test false (lt-leb allowed s h) ∙ goes-on (begun .answer) begun later (sym (ap (λ (g : Found). g .answer) e) ∙ n)))
 
-        pub ends-undecided : allowed ≤ s → record { answer = Undecided; values = replicate 64 0; splits = s; «dead_ends» = d } ≡ foundOf whole
-        unfolding foundOf outcome answerOf valuesIn
-        ends-undecided l = sym (ap foundOf (by-test true (le-leb allowed s l)))
+    -- ---- what the calls ask
 
-        first-same : take v (firstHalf i saved) ≡ firstPart (take v saved)
-        first-same = first-front saved i there ∙ ap (λ (j : ℕ). firstHalf j (take v saved)) at
+    pub first-rooms : Rooms (take v (firstHalf i saved))
+    first-rooms = subst Rooms (sym first-same) (parts .firstRooms)
 
-        other-same : take v (otherHalf i saved) ≡ otherPart (take v saved)
-        other-same = other-front saved i there ∙ ap (λ (j : ℕ). otherHalf j (take v saved)) at
+    pub other-rooms : Rooms (take v (otherHalf i saved))
+    other-rooms = subst Rooms (sym other-same) (parts .otherRooms)
 
-        -- the first part's search, however deep it may go
-        begun-enough : search (suc (openValues (firstPart (take v saved)))) fields allowed (firstPart (take v saved)) (s + 1) d ≡ begun
-        begun-enough =
-            search-enough 0 (omega arith) fields (suc (openValues (firstPart (take v saved)))) (openValues (take v rooms)) allowed (s + 1) d (firstPart (take v saved))
-            (parts .firstRooms) (omega arith) (parts .firstFalls)
+    pub first-less : openValues (take v (firstHalf i saved)) < openValues (take v rooms)
+    first-less = subst (λ (half : List ℕ). openValues half < openValues (take v rooms)) (sym first-same) (parts .firstFalls)
 
-        later-enough : (t e : ℕ) → search (suc (openValues (otherPart (take v saved)))) fields allowed (otherPart (take v saved)) t e ≡ later t e
-        later-enough t e =
-            search-enough 0 (omega arith) fields (suc (openValues (otherPart (take v saved)))) (openValues (take v rooms)) allowed t e (otherPart (take v saved))
-            (parts .otherRooms) (omega arith) (parts .otherFalls)
+    pub other-less : openValues (take v (otherHalf i saved)) < openValues (take v rooms)
+    other-less = subst (λ (half : List ℕ). openValues half < openValues (take v rooms)) (sym other-same) (parts .otherFalls)
 
-        -- what the code found in the first part is what the search finds there
-        pub first-found : (r : Found) → r ≡ foundOf (search (suc (openValues (take v (firstHalf i saved)))) fields allowed (take v (firstHalf i saved)) (s + 1) d) → r ≡ foundOf begun
-        first-found r e = e ∙ ap (λ (half : List ℕ). foundOf (search (suc (openValues half)) fields allowed half (s + 1) d)) first-same ∙ ap foundOf begun-enough
+    pub first-counts : Counts allowed s d → s < allowed → Counts allowed (s + 1) d
+    first-counts c h = record { ceiling = c .ceiling; within = omega arith; fewer = omega (arith, c .fewer) }
 
-        -- an answer of the first part that is not NONE is the answer
-        pub ends-first : (r : Found) → r ≡ foundOf begun → s < allowed → (r .answer ≡ None → ⊥) → r ≡ foundOf whole
-        unfolding foundOf
-        ends-first r e h ne =
-            e ∙ ap foundOf (sym (by-test false (lt-leb allowed s h) ∙ stays (begun .answer) begun later (λ n. ne (ap (λ (f : Found). f .answer) e ∙ n))))
-
-        -- where it is NONE the other part's answer is
-        pub ends-second : (r q : Found) → r ≡ foundOf begun → s < allowed → r .answer ≡ None
-            → q ≡ foundOf (search (suc (openValues (take v (otherHalf i saved)))) fields allowed (take v (otherHalf i saved)) (r .splits) (r .«dead_ends»)) → q ≡ foundOf whole
-        unfolding foundOf
-        ends-second r q e h n f =
-            f ∙ ap (λ (half : List ℕ). foundOf (search (suc (openValues half)) fields allowed half (r .splits) (r .«dead_ends»))) other-same
-            ∙ ap foundOf (later-enough (r .splits) (r .«dead_ends»))
-            ∙ ap₂ (λ (t u : ℕ). foundOf (later t u)) (ap (λ (g : Found). g .splits) e) (ap (λ (g : Found). g .«dead_ends») e)
-            ∙ ap foundOf (sym (by-test false (lt-leb allowed s h) ∙ goes-on (begun .answer) begun later (sym (ap (λ (g : Found). g .answer) e) ∙ n)))
-
-        -- ---- what the calls ask
-
-        pub first-rooms : Rooms (take v (firstHalf i saved))
-        first-rooms = subst Rooms (sym first-same) (parts .firstRooms)
-
-        pub other-rooms : Rooms (take v (otherHalf i saved))
-        other-rooms = subst Rooms (sym other-same) (parts .otherRooms)
-
-        pub first-less : openValues (take v (firstHalf i saved)) < openValues (take v rooms)
-        first-less = subst (λ (half : List ℕ). openValues half < openValues (take v rooms)) (sym first-same) (parts .firstFalls)
-
-        pub other-less : openValues (take v (otherHalf i saved)) < openValues (take v rooms)
-        other-less = subst (λ (half : List ℕ). openValues half < openValues (take v rooms)) (sym other-same) (parts .otherFalls)
-
-        pub first-counts : Counts allowed s d → s < allowed → Counts allowed (s + 1) d
-        first-counts c h = record { ceiling = c .ceiling; within = omega arith; fewer = omega (arith, c .fewer) }
-
-        pub other-counts : (r : Found) → Counts allowed s d → s < allowed → r ≡ foundOf begun → Counts allowed (r .splits) (r .«dead_ends»)
-        unfolding foundOf
-        other-counts r c h e =
-            let counted = search-counts fields (openValues (take v rooms)) allowed (s + 1) d (firstPart (take v saved)) (omega arith) in
-            let splits : r .splits ≡ begun .splits = ap (λ (g : Found). g .splits) e in
-            let ends : r .«dead_ends» ≡ begun .deadEnds = ap (λ (g : Found). g .«dead_ends») e in
-            record { ceiling = c .ceiling; within = omega (arith, counted .within); fewer = omega (arith, counted .fewer, counted .more, c .fewer) }
+    pub other-counts : (r : Found) → Counts allowed s d → s < allowed → r ≡ foundOf begun → Counts allowed (r .splits) (r .«dead_ends»)
+    unfolding foundOf
+    other-counts r c h e =
+        let counted = search-counts fields (openValues (take v rooms)) allowed (s + 1) d (firstPart (take v saved)) (omega arith) in
+        let splits : r .splits ≡ begun .splits = ap (λ (g : Found). g .splits) e in
+        let ends : r .«dead_ends» ≡ begun .deadEnds = ap (λ (g : Found). g .«dead_ends») e in
+        record { ceiling = c .ceiling; within = omega (arith, counted .within); fewer = omega (arith, counted .fewer, counted .more, c .fewer) }

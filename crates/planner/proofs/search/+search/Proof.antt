@@ -1,32 +1,31 @@
-use Prim.Native.Nat.{ℕ, suc, _+_, _<_}
+-- `planner::search::search` meets its contract. It calls itself; the measure is the number of open values, which falls with either half. Assumes nothing.
 use mathlib.Core.Path.{_≡_, sym, ap, _∙_, subst}
-use Prim.Native.Nat.{_≤_}
-use native.Mathlib.Omega.{arith}
-use borrow.Author.Needs.{needs}
-use borrow.Kind.Array.{eInt, good-length}
-use mir.Syntax.{w32}
-use lib.ListN.{length, take}
-use Rattle.boxes.specs.Rooms.{fieldsIn}
-use Rattle.boxes.proofs.InputLaws.{sound-limits}
-use Rattle.planner.proofs.SearchTurns.{Saved, begun, shrunk-dead, ends-dead, saved-of, ends-settled, ends-stalled, ends-undecided, first-found, ends-first, ends-second, first-rooms, other-rooms, first-less, other-less, first-counts, other-counts}
-use Rattle.steps.specs.Boxes.{openValues, Rooms}
-use Rattle.steps.specs.Shrinking.{settled}
-use Rattle.steps.specs.Search.{chosen, search as searchOf}
-use Rattle.planner.specs.Found.{foundOf}
 use mathlib.Core.List.{List}
-use mathlib.Core.Bool.{false}
+use Prim.Native.Nat.{ℕ, suc, _+_, _≤_, _<_}
+use native.Mathlib.Omega.{arith}
+use lib.ListN.{length, take}
+use borrow.Author.Needs.{needs}
 use borrow.Fn.Kinds.{In}
 use borrow.Fn.PlainCycle.{Measures, is, falls, and}
-use Rattle.planner.proofs.search.search.Reads as search′
-use Rattle.planner.proofs.search.search.Kinds as search-kinds
-use Rattle.planner.proofs.search.+search.Lts-search as search-lts
+use borrow.Kind.Array.{eInt, good-length}
+use mir.Syntax.{w32}
+use Rattle.steps.specs.Boxes.{openValues, Rooms}
+use Rattle.steps.specs.Search.{search as searchOf}
+use Rattle.boxes.specs.Rooms.{fieldsIn}
+use Rattle.boxes.proofs.InputLaws.{sound-limits}
 use Rattle.boxes.proofs.choose.choose.Reads as choose-reads
 use Rattle.boxes.proofs.choose.first_half.Reads as first-half-reads
 use Rattle.boxes.proofs.choose.other_half.Reads as other-half-reads
 use Rattle.boxes.proofs.choose.smallest_values.Reads as smallest-values-reads
 use Rattle.boxes.proofs.settle.settled.Reads as settled-reads
 use Rattle.boxes.proofs.shrink.shrink.Reads as shrink-reads
+use Rattle.planner.specs.declared.search.Answer.the-variants.{None}
+use Rattle.planner.specs.Found.{foundOf}
+use Rattle.planner.proofs.SearchTurns.{Given, Saved, Split, begun, shrunk-dead, ends-dead, saved-of, ends-settled, ends-stalled, ends-undecided, first-found, ends-first, ends-second, first-rooms, other-rooms, first-less, other-less, first-counts, other-counts}
 use Rattle.planner.proofs.search.without_plan.Reads as without-plan-reads
+use Rattle.planner.proofs.search.search.Reads as search′
+use Rattle.planner.proofs.search.search.Kinds as search-kinds
+use Rattle.planner.proofs.search.+search.Lts-search as search-lts
 use Rattle.planner.proofs.search.+search.{statement}
 use Rattle.planner.proofs.search.+search.Tie.{close}
 
@@ -43,23 +42,94 @@ search-below t = and 1 search-kinds.ps (falls 1 search-kinds.ps _<_ μ-search t)
 abbrev claims : ℕ → search-lts.Claims
 claims t = (shrink-reads.Asked, shrink-reads.Learnt, without-plan-reads.Asked, without-plan-reads.Learnt, settled-reads.Asked, settled-reads.Learnt, smallest-values-reads.Asked, smallest-values-reads.Learnt, choose-reads.Asked, choose-reads.Learnt, first-half-reads.Asked, first-half-reads.Learnt, other-half-reads.Asked, other-half-reads.Learnt, search-below t, search′.Post)
 
--- at the entry: the positions are at most 64, and so many rooms there are
-positions : (t : ℕ) (c : search-lts.Start (claims t) (search-at t) search′.Post) → c .args .v ≤ 64
-positions t c = sound-limits (c .args .input .now) (c .args .v) (c .pre .1 .0) .1
+-- ---- the states that a call comes through, each named by what was done last
 
-rooms-long : (t : ℕ) (c : search-lts.Start (claims t) (search-at t) search′.Post) → length (c .args .rooms) ≡ 64
-rooms-long t c = good-length (eInt w32) 64 (c .args .rooms) _ (c .good .1 .1 .1 .0)
+abbrev Start : ℕ → Type 0
+Start t = search-lts.Start (claims t) (search-at t) search′.Post
+
+abbrev Shrunk : ℕ → Type 0
+Shrunk t = search-lts.After-shrink (claims t) (search-at t) search′.Post
+
+abbrev Alive : ℕ → Type 0
+Alive t = search-lts.After-enum-told2 (claims t) (search-at t) search′.Post
+
+abbrev Tested : ℕ → Type 0
+Tested t = search-lts.After-settled (claims t) (search-at t) search′.Post
+
+abbrev Chosen : ℕ → Type 0
+Chosen t = search-lts.After-choose (claims t) (search-at t) search′.Post
+
+abbrev Halved : ℕ → Type 0
+Halved t = search-lts.After-other-half (claims t) (search-at t) search′.Post
+
+abbrev Searched : ℕ → Type 0
+Searched t = search-lts.After-search (claims t) (search-at t) search′.Post
+
+-- the way back from each to the one before
+module _ {t : ℕ} where
+  abbrev start : Shrunk t → Start t
+  start c = c .before .before
+
+  abbrev shrunk : Alive t → Shrunk t
+  shrunk c = c .before .before .before
+
+  abbrev living : Tested t → Alive t
+  living c = c .before .before
+
+  abbrev tested : Chosen t → Tested t
+  tested c = c .before .before .before
+
+  abbrev chosen : search-lts.Else3 (claims t) (search-at t) search′.Post → Chosen t
+  chosen c = c .before .before
+
+  abbrev opened : Halved t → search-lts.Else3 (claims t) (search-at t) search′.Post
+  opened c = c .before .before
+
+  abbrev halved : Searched t → Halved t
+  halved c = c .before
+
+  -- the start of each
+  abbrev begin : Alive t → Start t
+  begin c = start (shrunk c)
+
+-- ---- what is known at them
+
+-- at the start: at most 64 positions, and 64 rooms
+positions : {t : ℕ} (c : Start t) → c .args .v ≤ 64
+positions c = sound-limits (c .args .input .now) (c .args .v) (c .pre .1 .0) .1
+
+rooms-long : {t : ℕ} (c : Start t) → length (c .args .rooms) ≡ 64
+rooms-long c = good-length (eInt w32) 64 (c .args .rooms) _ (c .good .1 .1 .1 .0)
+
+-- what the call is given
+abbrev given : {t : ℕ} → Start t → Given
+given c = record {
+  fields = fieldsIn (c .args .input .now);
+  v = c .args .v;
+  rooms = c .args .rooms;
+  allowed = c .args .allowed;
+  splits = c .args .splits;
+  deadEnds = c .args .dead-ends;
+  small = positions c;
+  long = rooms-long c;
+  full = c .pre .1 .1;
+}
 
 -- a box that lives: what was saved of it
-kept : (t : ℕ) (c : search-lts.After-enum-told2 (claims t) (search-at t) search′.Post) → Saved (fieldsIn (c .before .before .before .before .before .args .input .now)) (c .before .before .before .before .before .args .v) (c .before .before .before .before .before .args .rooms) (positions t (c .before .before .before .before .before)) (rooms-long t (c .before .before .before .before .before)) (c .before .before .before .before .before .pre .1 .1) (c .before .before .before .shrink .result .rooms)
-kept t c = saved-of (fieldsIn (c .before .before .before .before .before .args .input .now)) (c .before .before .before .before .before .args .v) (c .before .before .before .before .before .args .rooms) (positions t (c .before .before .before .before .before)) (rooms-long t (c .before .before .before .before .before)) (c .before .before .before .before .before .pre .1 .1) (c .before .before .before .shrink .result) (c .before .before .before .shrink .ensures) (c .enum-told2 .given .1)
+kept : {t : ℕ} (c : Alive t) → Saved (given (begin c)) (shrunk c .shrink .result .rooms)
+kept c = saved-of (given (begin c)) (shrunk c .shrink .result) (shrunk c .shrink .ensures) (c .enum-told2 .given .1)
 
--- at a split: the box is not settled, and the room is there
-unsettled : (t : ℕ) (c : search-lts.Else3 (claims t) (search-at t) search′.Post) → settled (fieldsIn (c .before .before .before .before .before .before .before .before .before .before .before .before .args .input .now)) (take (c .before .before .before .before .before .before .before .before .before .before .before .before .args .v) (c .before .before .before .before .before .before .before .before .before .before .shrink .result .rooms)) ≡ false
-unsettled t c = sym (c .before .before .before .before .before .settled .ensures) ∙ c .before .before .before .before .if1 .left
+-- a box that is not settled, and a room of it that is there
+split : {t : ℕ} (c : search-lts.Else3 (claims t) (search-at t) search′.Post)
+    → Split (given (begin (living (tested (chosen c))))) (shrunk (living (tested (chosen c))) .shrink .result .rooms) (chosen c .choose .result)
+split c = record {
+  kept = kept (living (tested (chosen c)));
+  unsettled = sym (tested (chosen c) .settled .ensures) ∙ chosen c .before .before .if1 .left;
+  at = chosen c .choose .ensures;
+  there = c .before .if2 .left;
+}
 
-index : (t : ℕ) (c : search-lts.Else3 (claims t) (search-at t) search′.Post) → (c .before .before .choose .result ≡ chosen (take (c .before .before .before .before .before .before .before .before .before .before .before .before .args .v) (c .before .before .before .before .before .before .before .before .before .before .shrink .result .rooms))) × (c .before .before .choose .result < c .before .before .before .before .before .before .before .before .before .before .before .before .args .v)
-index t c = (c .before .before .choose .ensures, c .before .if2 .left)
+-- ---- the needs, in the order of the code
 
 search-shrink-requires : (t : ℕ) → search-lts.Need-shrink-requires (claims t) (search-at t) search′.Post
 search-shrink-requires t c κs = (c .before .pre .1 .0, c .before .pre .1 .1)
@@ -75,62 +145,106 @@ search-without-plan-requires t c κs = tt
 
 search-returns : (t : ℕ) → search-lts.Need-returns (claims t) (search-at t) search′.Post
 search-returns t c =
-    let start = c .before .before .before .before .before .before in
-    let a = start .args in
+    let shrank = c .before .before .before .before in
     c .without-plan .ensures
-    ∙ ends-dead (fieldsIn (a .input .now)) (a .v) (a .rooms) (positions t start) (rooms-long t start) (start .pre .1 .1) (a .allowed) (a .splits) (a .dead-ends) _ (shrunk-dead _ _ (c .before .before .before .before .shrink .result) _ (c .before .before .before .before .shrink .ensures) (c .before .enum-told .given .1))
+    ∙ ends-dead (given (start shrank)) _ (shrunk-dead _ _ (shrank .shrink .result) _ (shrank .shrink .ensures) (c .before .enum-told .given .1))
 
 search-enum-told-2 : (t : ℕ) → search-lts.Need-enum-told-2 (claims t) (search-at t) search′.Post
 search-enum-told-2 t c = search needs
 
 search-settled-requires : (t : ℕ) → search-lts.Need-settled-requires (claims t) (search-at t) search′.Post
-search-settled-requires t c κs = c .before .before .before .before .before .before .pre .1 .0
+search-settled-requires t c κs = begin (c .before) .pre .1 .0
 
 search-smallest-values-requires : (t : ℕ) → search-lts.Need-smallest-values-requires (claims t) (search-at t) search′.Post
-search-smallest-values-requires t c κs = positions t (c .before .before .before .before .before .before .before .before .before)
+search-smallest-values-requires t c κs = positions (begin (living (c .before .before)))
 
 search-returns-2 : (t : ℕ) → search-lts.Need-returns-2 (claims t) (search-at t) search′.Post
-search-returns-2 t c = ends-settled (fieldsIn (c .before .before .before .before .before .before .before .before .before .before .args .input .now)) (c .before .before .before .before .before .before .before .before .before .before .args .v) (c .before .before .before .before .before .before .before .before .before .before .args .rooms) (positions t (c .before .before .before .before .before .before .before .before .before .before)) (rooms-long t (c .before .before .before .before .before .before .before .before .before .before)) (c .before .before .before .before .before .before .before .before .before .before .pre .1 .1) (c .before .before .before .before .before .before .before .before .before .before .args .allowed) (c .before .before .before .before .before .before .before .before .before .before .args .splits) (c .before .before .before .before .before .before .before .before .before .before .args .dead-ends) (c .before .before .before .before .before .before .before .before .shrink .result .rooms) (kept t (c .before .before .before .before .before)) (c .smallest-values .result) (sym (c .before .before .before .settled .ensures) ∙ c .before .before .if1 .taken) (c .smallest-values .ensures)
+search-returns-2 t c =
+    let test = c .before .before .before in
+    ends-settled (given (begin (living test))) (kept (living test)) (c .smallest-values .result) (sym (test .settled .ensures) ∙ c .before .before .if1 .taken) (c .smallest-values .ensures)
 
 search-choose-requires : (t : ℕ) → search-lts.Need-choose-requires (claims t) (search-at t) search′.Post
-search-choose-requires t c κs = positions t (c .before .before .before .before .before .before .before .before .before)
+search-choose-requires t c κs = positions (begin (living (c .before .before)))
 
 search-without-plan-requires-2 : (t : ℕ) → search-lts.Need-without-plan-requires-2 (claims t) (search-at t) search′.Post
 search-without-plan-requires-2 t c κs = tt
 
 search-returns-3 : (t : ℕ) → search-lts.Need-returns-3 (claims t) (search-at t) search′.Post
-search-returns-3 t c = c .without-plan2 .ensures ∙ ends-stalled (fieldsIn (c .before .before .before .before .before .before .before .before .before .before .before .before .args .input .now)) (c .before .before .before .before .before .before .before .before .before .before .before .before .args .v) (c .before .before .before .before .before .before .before .before .before .before .before .before .args .rooms) (positions t (c .before .before .before .before .before .before .before .before .before .before .before .before)) (rooms-long t (c .before .before .before .before .before .before .before .before .before .before .before .before)) (c .before .before .before .before .before .before .before .before .before .before .before .before .pre .1 .1) (c .before .before .before .before .before .before .before .before .before .before .before .before .args .allowed) (c .before .before .before .before .before .before .before .before .before .before .before .before .args .splits) (c .before .before .before .before .before .before .before .before .before .before .before .before .args .dead-ends) (c .before .before .before .before .before .before .before .before .before .before .shrink .result .rooms) (kept t (c .before .before .before .before .before .before .before)) (c .before .before .choose .result) (sym (c .before .before .before .before .before .settled .ensures) ∙ c .before .before .before .before .if1 .left) (c .before .before .choose .ensures) (c .before .if2 .taken)
+search-returns-3 t c =
+    let choice = c .before .before in
+    let test = tested choice in
+    c .without-plan2 .ensures
+    ∙ ends-stalled (given (begin (living test))) (kept (living test)) (choice .choose .result) (sym (test .settled .ensures) ∙ choice .before .before .if1 .left) (choice .choose .ensures) (c .before .if2 .taken)
 
 search-without-plan-requires-3 : (t : ℕ) → search-lts.Need-without-plan-requires-3 (claims t) (search-at t) search′.Post
 search-without-plan-requires-3 t c κs = tt
 
 search-returns-4 : (t : ℕ) → search-lts.Need-returns-4 (claims t) (search-at t) search′.Post
-search-returns-4 t c = c .without-plan3 .ensures ∙ ends-undecided (fieldsIn (c .before .before .before .before .before .before .before .before .before .before .before .before .before .args .input .now)) (c .before .before .before .before .before .before .before .before .before .before .before .before .before .args .v) (c .before .before .before .before .before .before .before .before .before .before .before .before .before .args .rooms) (positions t (c .before .before .before .before .before .before .before .before .before .before .before .before .before)) (rooms-long t (c .before .before .before .before .before .before .before .before .before .before .before .before .before)) (c .before .before .before .before .before .before .before .before .before .before .before .before .before .pre .1 .1) (c .before .before .before .before .before .before .before .before .before .before .before .before .before .args .allowed) (c .before .before .before .before .before .before .before .before .before .before .before .before .before .args .splits) (c .before .before .before .before .before .before .before .before .before .before .before .before .before .args .dead-ends) (c .before .before .before .before .before .before .before .before .before .before .before .shrink .result .rooms) (kept t (c .before .before .before .before .before .before .before .before)) (c .before .before .before .choose .result) (sym (c .before .before .before .before .before .before .settled .ensures) ∙ c .before .before .before .before .before .if1 .left) (c .before .before .before .choose .ensures) (c .before .before .if2 .left) (c .before .if3 .taken)
+search-returns-4 t c =
+    let choice = c .before .before .before in
+    let test = tested choice in
+    c .without-plan3 .ensures
+    ∙ ends-undecided (given (begin (living test))) (record {
+      kept = kept (living test);
+      unsettled = sym (test .settled .ensures) ∙ choice .before .before .if1 .left;
+      at = choice .choose .ensures;
+      there = c .before .before .if2 .left;
+    }) (c .before .if3 .taken)
 
 search-first-half-requires : (t : ℕ) → search-lts.Need-first-half-requires (claims t) (search-at t) search′.Post
-search-first-half-requires t c κs = omega (arith, positions t (c .before .before .before .before .before .before .before .before .before .before .before .before), index t c .1)
+search-first-half-requires t c κs = omega (arith, positions (begin (living (tested (chosen c)))), split c .there)
+
+search-other-half-requires : (t : ℕ) → search-lts.Need-other-half-requires (claims t) (search-at t) search′.Post
+search-other-half-requires t c κs = omega (arith, positions (begin (living (tested (chosen (c .before))))), split (c .before) .there)
+
+-- the start, from a box that was split
+abbrev before : {t : ℕ} → Halved t → Start t
+before c = begin (living (tested (chosen (opened c))))
 
 search-add-search : (t : ℕ) → search-lts.Need-add-search (claims t) (search-at t) search′.Post
-search-add-search t c = let counts = c .before .before .before .before .before .before .before .before .before .before .before .before .before .before .pre .1 .2 in omega (arith, c .before .before .if3 .left)
-
--- what was found in the first half is what the search finds in the first part
-found-first : (t : ℕ) (c : search-lts.After-search (claims t) (search-at t) search′.Post) → c .search .result ≡ foundOf (begun (fieldsIn (c .before .before .before .before .before .before .before .before .before .before .before .before .before .before .before .args .input .now)) (c .before .before .before .before .before .before .before .before .before .before .before .before .before .before .before .args .v) (c .before .before .before .before .before .before .before .before .before .before .before .before .before .before .before .args .rooms) (positions t (c .before .before .before .before .before .before .before .before .before .before .before .before .before .before .before)) (rooms-long t (c .before .before .before .before .before .before .before .before .before .before .before .before .before .before .before)) (c .before .before .before .before .before .before .before .before .before .before .before .before .before .before .before .pre .1 .1) (c .before .before .before .before .before .before .before .before .before .before .before .before .before .before .before .args .allowed) (c .before .before .before .before .before .before .before .before .before .before .before .before .before .before .before .args .splits) (c .before .before .before .before .before .before .before .before .before .before .before .before .before .before .before .args .dead-ends) (c .before .before .before .before .before .before .before .before .before .before .before .before .before .shrink .result .rooms) (kept t (c .before .before .before .before .before .before .before .before .before .before)) (c .before .before .before .before .before .choose .result) (unsettled t (c .before .before .before)) (index t (c .before .before .before) .0) (index t (c .before .before .before) .1))
-found-first t c =
-    let a = c .before .before .before .before .before .before .before .before .before .before .before .before .before .before .before .args in
-    first-found (fieldsIn (c .before .before .before .before .before .before .before .before .before .before .before .before .before .before .before .args .input .now)) (c .before .before .before .before .before .before .before .before .before .before .before .before .before .before .before .args .v) (c .before .before .before .before .before .before .before .before .before .before .before .before .before .before .before .args .rooms) (positions t (c .before .before .before .before .before .before .before .before .before .before .before .before .before .before .before)) (rooms-long t (c .before .before .before .before .before .before .before .before .before .before .before .before .before .before .before)) (c .before .before .before .before .before .before .before .before .before .before .before .before .before .before .before .pre .1 .1) (c .before .before .before .before .before .before .before .before .before .before .before .before .before .before .before .args .allowed) (c .before .before .before .before .before .before .before .before .before .before .before .before .before .before .before .args .splits) (c .before .before .before .before .before .before .before .before .before .before .before .before .before .before .before .args .dead-ends) (c .before .before .before .before .before .before .before .before .before .before .before .before .before .shrink .result .rooms) (kept t (c .before .before .before .before .before .before .before .before .before .before)) (c .before .before .before .before .before .choose .result) (unsettled t (c .before .before .before)) (index t (c .before .before .before) .0) (index t (c .before .before .before) .1) (c .search .result)
-    (c .search .ensures ∙ ap (λ (half : List ℕ). foundOf (searchOf (suc (openValues (take (a .v) half))) (fieldsIn (a .input .now)) (a .allowed) (take (a .v) half) (a .splits + 1) (a .dead-ends))) (c .before .before .first-half .ensures))
+search-add-search t c = let counts = before c .pre .1 .2 in omega (arith, opened c .if3 .left)
 
 search-search-requires : (t : ℕ) → search-lts.Need-search-requires (claims t) (search-at t) search′.Post
-search-search-requires t c κs = (subst (λ (k : ℕ). openValues (take (c .before .before .before .before .before .before .before .before .before .before .before .before .before .before .args .v) (c .before .first-half .result)) < k) (c .before .before .before .before .before .before .before .before .before .before .before .before .before .before .pre .0) (subst (λ (l : List ℕ). openValues (take (c .before .before .before .before .before .before .before .before .before .before .before .before .before .before .args .v) l) < openValues (take (c .before .before .before .before .before .before .before .before .before .before .before .before .before .before .args .v) (c .before .before .before .before .before .before .before .before .before .before .before .before .before .before .args .rooms))) (sym (c .before .first-half .ensures)) (first-less (fieldsIn (c .before .before .before .before .before .before .before .before .before .before .before .before .before .before .args .input .now)) (c .before .before .before .before .before .before .before .before .before .before .before .before .before .before .args .v) (c .before .before .before .before .before .before .before .before .before .before .before .before .before .before .args .rooms) (positions t (c .before .before .before .before .before .before .before .before .before .before .before .before .before .before)) (rooms-long t (c .before .before .before .before .before .before .before .before .before .before .before .before .before .before)) (c .before .before .before .before .before .before .before .before .before .before .before .before .before .before .pre .1 .1) (c .before .before .before .before .before .before .before .before .before .before .before .before .before .before .args .allowed) (c .before .before .before .before .before .before .before .before .before .before .before .before .before .before .args .splits) (c .before .before .before .before .before .before .before .before .before .before .before .before .before .before .args .dead-ends) (c .before .before .before .before .before .before .before .before .before .before .before .before .shrink .result .rooms) (kept t (c .before .before .before .before .before .before .before .before .before)) (c .before .before .before .before .choose .result) (unsettled t (c .before .before)) (index t (c .before .before) .0) (index t (c .before .before) .1))), (c .before .before .before .before .before .before .before .before .before .before .before .before .before .before .pre .1 .0, subst (λ (l : List ℕ). Rooms (take (c .before .before .before .before .before .before .before .before .before .before .before .before .before .before .args .v) l)) (sym (c .before .first-half .ensures)) (first-rooms (fieldsIn (c .before .before .before .before .before .before .before .before .before .before .before .before .before .before .args .input .now)) (c .before .before .before .before .before .before .before .before .before .before .before .before .before .before .args .v) (c .before .before .before .before .before .before .before .before .before .before .before .before .before .before .args .rooms) (positions t (c .before .before .before .before .before .before .before .before .before .before .before .before .before .before)) (rooms-long t (c .before .before .before .before .before .before .before .before .before .before .before .before .before .before)) (c .before .before .before .before .before .before .before .before .before .before .before .before .before .before .pre .1 .1) (c .before .before .before .before .before .before .before .before .before .before .before .before .before .before .args .allowed) (c .before .before .before .before .before .before .before .before .before .before .before .before .before .before .args .splits) (c .before .before .before .before .before .before .before .before .before .before .before .before .before .before .args .dead-ends) (c .before .before .before .before .before .before .before .before .before .before .before .before .shrink .result .rooms) (kept t (c .before .before .before .before .before .before .before .before .before)) (c .before .before .before .before .choose .result) (unsettled t (c .before .before)) (index t (c .before .before) .0) (index t (c .before .before) .1)), first-counts (fieldsIn (c .before .before .before .before .before .before .before .before .before .before .before .before .before .before .args .input .now)) (c .before .before .before .before .before .before .before .before .before .before .before .before .before .before .args .v) (c .before .before .before .before .before .before .before .before .before .before .before .before .before .before .args .rooms) (positions t (c .before .before .before .before .before .before .before .before .before .before .before .before .before .before)) (rooms-long t (c .before .before .before .before .before .before .before .before .before .before .before .before .before .before)) (c .before .before .before .before .before .before .before .before .before .before .before .before .before .before .pre .1 .1) (c .before .before .before .before .before .before .before .before .before .before .before .before .before .before .args .allowed) (c .before .before .before .before .before .before .before .before .before .before .before .before .before .before .args .splits) (c .before .before .before .before .before .before .before .before .before .before .before .before .before .before .args .dead-ends) (c .before .before .before .before .before .before .before .before .before .before .before .before .shrink .result .rooms) (kept t (c .before .before .before .before .before .before .before .before .before)) (c .before .before .before .before .choose .result) (unsettled t (c .before .before)) (index t (c .before .before) .0) (index t (c .before .before) .1) (c .before .before .before .before .before .before .before .before .before .before .before .before .before .before .pre .1 .2) (c .before .before .if3 .left)))
+search-search-requires t c κs =
+    let s = split (opened c) in
+    let a = before c .args in
+    let same = sym (c .before .first-half .ensures) in (
+      subst (λ (k : ℕ). openValues (take (a .v) (c .before .first-half .result)) < k) (before c .pre .0)
+          (subst (λ (half : List ℕ). openValues (take (a .v) half) < openValues (take (a .v) (a .rooms))) same (first-less (given (before c)) s)),
+      (
+        before c .pre .1 .0,
+        subst (λ (half : List ℕ). Rooms (take (a .v) half)) same (first-rooms (given (before c)) s),
+        first-counts (given (before c)) s (before c .pre .1 .2) (opened c .if3 .left),
+      ),
+    )
+
+-- what was found in the first half is what the search finds in the first part
+found-first : {t : ℕ} (c : Searched t) → c .search .result ≡ foundOf (begun (given (before (halved c))) (split (opened (halved c))))
+found-first c =
+    let a = before (halved c) .args in
+    first-found (given (before (halved c))) (split (opened (halved c))) (c .search .result)
+    (c .search .ensures
+    ∙ ap (λ (half : List ℕ). foundOf (searchOf (suc (openValues (take (a .v) half))) (fieldsIn (a .input .now)) (a .allowed) (take (a .v) half) (a .splits + 1) (a .dead-ends)))
+    (halved c .before .first-half .ensures))
 
 search-enum-told-3 : (t : ℕ) → search-lts.Need-enum-told-3 (claims t) (search-at t) search′.Post
 search-enum-told-3 t c = search needs
 
-search-other-half-requires : (t : ℕ) → search-lts.Need-other-half-requires (claims t) (search-at t) search′.Post
-search-other-half-requires t c κs = omega (arith, positions t (c .before .before .before .before .before .before .before .before .before .before .before .before .before), index t (c .before) .1)
-
 search-search-requires-2 : (t : ℕ) → search-lts.Need-search-requires-2 (claims t) (search-at t) search′.Post
-search-search-requires-2 t c κs = (subst (λ (k : ℕ). openValues (take (c .before .before .before .before .before .before .before .before .before .before .before .before .before .before .before .before .before .args .v) (c .before .before .before .other-half .result)) < k) (c .before .before .before .before .before .before .before .before .before .before .before .before .before .before .before .before .before .pre .0) (subst (λ (l : List ℕ). openValues (take (c .before .before .before .before .before .before .before .before .before .before .before .before .before .before .before .before .before .args .v) l) < openValues (take (c .before .before .before .before .before .before .before .before .before .before .before .before .before .before .before .before .before .args .v) (c .before .before .before .before .before .before .before .before .before .before .before .before .before .before .before .before .before .args .rooms))) (sym (c .before .before .before .other-half .ensures)) (other-less (fieldsIn (c .before .before .before .before .before .before .before .before .before .before .before .before .before .before .before .before .before .args .input .now)) (c .before .before .before .before .before .before .before .before .before .before .before .before .before .before .before .before .before .args .v) (c .before .before .before .before .before .before .before .before .before .before .before .before .before .before .before .before .before .args .rooms) (positions t (c .before .before .before .before .before .before .before .before .before .before .before .before .before .before .before .before .before)) (rooms-long t (c .before .before .before .before .before .before .before .before .before .before .before .before .before .before .before .before .before)) (c .before .before .before .before .before .before .before .before .before .before .before .before .before .before .before .before .before .pre .1 .1) (c .before .before .before .before .before .before .before .before .before .before .before .before .before .before .before .before .before .args .allowed) (c .before .before .before .before .before .before .before .before .before .before .before .before .before .before .before .before .before .args .splits) (c .before .before .before .before .before .before .before .before .before .before .before .before .before .before .before .before .before .args .dead-ends) (c .before .before .before .before .before .before .before .before .before .before .before .before .before .before .before .shrink .result .rooms) (kept t (c .before .before .before .before .before .before .before .before .before .before .before .before)) (c .before .before .before .before .before .before .before .choose .result) (unsettled t (c .before .before .before .before .before)) (index t (c .before .before .before .before .before) .0) (index t (c .before .before .before .before .before) .1))), (c .before .before .before .before .before .before .before .before .before .before .before .before .before .before .before .before .before .pre .1 .0, subst (λ (l : List ℕ). Rooms (take (c .before .before .before .before .before .before .before .before .before .before .before .before .before .before .before .before .before .args .v) l)) (sym (c .before .before .before .other-half .ensures)) (other-rooms (fieldsIn (c .before .before .before .before .before .before .before .before .before .before .before .before .before .before .before .before .before .args .input .now)) (c .before .before .before .before .before .before .before .before .before .before .before .before .before .before .before .before .before .args .v) (c .before .before .before .before .before .before .before .before .before .before .before .before .before .before .before .before .before .args .rooms) (positions t (c .before .before .before .before .before .before .before .before .before .before .before .before .before .before .before .before .before)) (rooms-long t (c .before .before .before .before .before .before .before .before .before .before .before .before .before .before .before .before .before)) (c .before .before .before .before .before .before .before .before .before .before .before .before .before .before .before .before .before .pre .1 .1) (c .before .before .before .before .before .before .before .before .before .before .before .before .before .before .before .before .before .args .allowed) (c .before .before .before .before .before .before .before .before .before .before .before .before .before .before .before .before .before .args .splits) (c .before .before .before .before .before .before .before .before .before .before .before .before .before .before .before .before .before .args .dead-ends) (c .before .before .before .before .before .before .before .before .before .before .before .before .before .before .before .shrink .result .rooms) (kept t (c .before .before .before .before .before .before .before .before .before .before .before .before)) (c .before .before .before .before .before .before .before .choose .result) (unsettled t (c .before .before .before .before .before)) (index t (c .before .before .before .before .before) .0) (index t (c .before .before .before .before .before) .1)), other-counts (fieldsIn (c .before .before .before .before .before .before .before .before .before .before .before .before .before .before .before .before .before .args .input .now)) (c .before .before .before .before .before .before .before .before .before .before .before .before .before .before .before .before .before .args .v) (c .before .before .before .before .before .before .before .before .before .before .before .before .before .before .before .before .before .args .rooms) (positions t (c .before .before .before .before .before .before .before .before .before .before .before .before .before .before .before .before .before)) (rooms-long t (c .before .before .before .before .before .before .before .before .before .before .before .before .before .before .before .before .before)) (c .before .before .before .before .before .before .before .before .before .before .before .before .before .before .before .before .before .pre .1 .1) (c .before .before .before .before .before .before .before .before .before .before .before .before .before .before .before .before .before .args .allowed) (c .before .before .before .before .before .before .before .before .before .before .before .before .before .before .before .before .before .args .splits) (c .before .before .before .before .before .before .before .before .before .before .before .before .before .before .before .before .before .args .dead-ends) (c .before .before .before .before .before .before .before .before .before .before .before .before .before .before .before .shrink .result .rooms) (kept t (c .before .before .before .before .before .before .before .before .before .before .before .before)) (c .before .before .before .before .before .before .before .choose .result) (unsettled t (c .before .before .before .before .before)) (index t (c .before .before .before .before .before) .0) (index t (c .before .before .before .before .before) .1) (c .before .before .search .result) (c .before .before .before .before .before .before .before .before .before .before .before .before .before .before .before .before .before .pre .1 .2) (c .before .before .before .before .before .if3 .left) (found-first t (c .before .before))))
+search-search-requires-2 t c κs =
+    let first = c .before .before in
+    let h = halved first in
+    let s = split (opened h) in
+    let a = before h .args in
+    let same = sym (h .other-half .ensures) in (
+      subst (λ (k : ℕ). openValues (take (a .v) (h .other-half .result)) < k) (before h .pre .0)
+          (subst (λ (half : List ℕ). openValues (take (a .v) half) < openValues (take (a .v) (a .rooms))) same (other-less (given (before h)) s)),
+      (
+        before h .pre .1 .0,
+        subst (λ (half : List ℕ). Rooms (take (a .v) half)) same (other-rooms (given (before h)) s),
+        other-counts (given (before h)) s (first .search .result) (before h .pre .1 .2) (opened h .if3 .left) (found-first first),
+      ),
+    )
 
 search-enum-told-4 : (t : ℕ) → search-lts.Need-enum-told-4 (claims t) (search-at t) search′.Post
 search-enum-told-4 t c = search needs
@@ -143,18 +257,27 @@ search-enum-told-6 t c = search needs
 
 search-returns-5 : (t : ℕ) → search-lts.Need-returns-5 (claims t) (search-at t) search′.Post
 search-returns-5 t c =
-    let a = c .before .before .before .before .before .before .before .before .before .before .before .before .before .before .before .before .before .before .args in
-    ends-second (fieldsIn (c .before .before .before .before .before .before .before .before .before .before .before .before .before .before .before .before .before .before .args .input .now)) (c .before .before .before .before .before .before .before .before .before .before .before .before .before .before .before .before .before .before .args .v) (c .before .before .before .before .before .before .before .before .before .before .before .before .before .before .before .before .before .before .args .rooms) (positions t (c .before .before .before .before .before .before .before .before .before .before .before .before .before .before .before .before .before .before)) (rooms-long t (c .before .before .before .before .before .before .before .before .before .before .before .before .before .before .before .before .before .before)) (c .before .before .before .before .before .before .before .before .before .before .before .before .before .before .before .before .before .before .pre .1 .1) (c .before .before .before .before .before .before .before .before .before .before .before .before .before .before .before .before .before .before .args .allowed) (c .before .before .before .before .before .before .before .before .before .before .before .before .before .before .before .before .before .before .args .splits) (c .before .before .before .before .before .before .before .before .before .before .before .before .before .before .before .before .before .before .args .dead-ends) (c .before .before .before .before .before .before .before .before .before .before .before .before .before .before .before .before .shrink .result .rooms) (kept t (c .before .before .before .before .before .before .before .before .before .before .before .before .before)) (c .before .before .before .before .before .before .before .before .choose .result) (unsettled t (c .before .before .before .before .before .before)) (index t (c .before .before .before .before .before .before) .0) (index t (c .before .before .before .before .before .before) .1) (c .before .before .before .search .result) (c .search2 .result) (found-first t (c .before .before .before)) (c .before .before .before .before .before .before .if3 .left) (c .before .enum-told3 .given .1)
-    (c .search2 .ensures ∙ ap (λ (half : List ℕ). foundOf (searchOf (suc (openValues (take (a .v) half))) (fieldsIn (a .input .now)) (a .allowed) (take (a .v) half) (c .before .before .before .search .result .splits) (c .before .before .before .search .result .«dead_ends»))) (c .before .before .before .before .other-half .ensures))
+    let first = c .before .before .before in
+    let h = halved first in
+    let a = before h .args in
+    ends-second (given (before h)) (split (opened h)) (first .search .result) (c .search2 .result) (found-first first) (opened h .if3 .left) (c .before .enum-told3 .given .1)
+    (c .search2 .ensures
+    ∙ ap (λ (half : List ℕ). foundOf (searchOf (suc (openValues (take (a .v) half))) (fieldsIn (a .input .now)) (a .allowed) (take (a .v) half) (first .search .result .splits) (first .search .result .«dead_ends»)))
+    (h .other-half .ensures))
+
+-- an answer of the first half that is not NONE is the answer
+first-ends : {t : ℕ} (c : Searched t) → (c .search .result .answer ≡ None → ⊥)
+    → c .search .result ≡ foundOf (searchOf (suc (openValues (take (before (halved c) .args .v) (before (halved c) .args .rooms)))) (fieldsIn (before (halved c) .args .input .now)) (before (halved c) .args .allowed) (take (before (halved c) .args .v) (before (halved c) .args .rooms)) (before (halved c) .args .splits) (before (halved c) .args .dead-ends))
+first-ends c other = ends-first (given (before (halved c))) (split (opened (halved c))) (c .search .result) (found-first c) (opened (halved c) .if3 .left) other
 
 search-returns-6 : (t : ℕ) → search-lts.Need-returns-6 (claims t) (search-at t) search′.Post
-search-returns-6 t c = ends-first (fieldsIn (c .before .before .before .before .before .before .before .before .before .before .before .before .before .before .before .before .before .args .input .now)) (c .before .before .before .before .before .before .before .before .before .before .before .before .before .before .before .before .before .args .v) (c .before .before .before .before .before .before .before .before .before .before .before .before .before .before .before .before .before .args .rooms) (positions t (c .before .before .before .before .before .before .before .before .before .before .before .before .before .before .before .before .before)) (rooms-long t (c .before .before .before .before .before .before .before .before .before .before .before .before .before .before .before .before .before)) (c .before .before .before .before .before .before .before .before .before .before .before .before .before .before .before .before .before .pre .1 .1) (c .before .before .before .before .before .before .before .before .before .before .before .before .before .before .before .before .before .args .allowed) (c .before .before .before .before .before .before .before .before .before .before .before .before .before .before .before .before .before .args .splits) (c .before .before .before .before .before .before .before .before .before .before .before .before .before .before .before .before .before .args .dead-ends) (c .before .before .before .before .before .before .before .before .before .before .before .before .before .before .before .shrink .result .rooms) (kept t (c .before .before .before .before .before .before .before .before .before .before .before .before)) (c .before .before .before .before .before .before .before .choose .result) (unsettled t (c .before .before .before .before .before)) (index t (c .before .before .before .before .before) .0) (index t (c .before .before .before .before .before) .1) (c .before .before .search .result) (found-first t (c .before .before)) (c .before .before .before .before .before .if3 .left) (λ e. let told = c .enum-told4 .given .1 in let z : _≡_ {A = ℕ} 0 1 = cc in omega arith)
+search-returns-6 t c = first-ends (c .before .before) (λ e. let told = c .enum-told4 .given .1 in let z : _≡_ {A = ℕ} 0 1 = cc in omega arith)
 
 search-returns-7 : (t : ℕ) → search-lts.Need-returns-7 (claims t) (search-at t) search′.Post
-search-returns-7 t c = ends-first (fieldsIn (c .before .before .before .before .before .before .before .before .before .before .before .before .before .before .before .before .before .args .input .now)) (c .before .before .before .before .before .before .before .before .before .before .before .before .before .before .before .before .before .args .v) (c .before .before .before .before .before .before .before .before .before .before .before .before .before .before .before .before .before .args .rooms) (positions t (c .before .before .before .before .before .before .before .before .before .before .before .before .before .before .before .before .before)) (rooms-long t (c .before .before .before .before .before .before .before .before .before .before .before .before .before .before .before .before .before)) (c .before .before .before .before .before .before .before .before .before .before .before .before .before .before .before .before .before .pre .1 .1) (c .before .before .before .before .before .before .before .before .before .before .before .before .before .before .before .before .before .args .allowed) (c .before .before .before .before .before .before .before .before .before .before .before .before .before .before .before .before .before .args .splits) (c .before .before .before .before .before .before .before .before .before .before .before .before .before .before .before .before .before .args .dead-ends) (c .before .before .before .before .before .before .before .before .before .before .before .before .before .before .before .shrink .result .rooms) (kept t (c .before .before .before .before .before .before .before .before .before .before .before .before)) (c .before .before .before .before .before .before .before .choose .result) (unsettled t (c .before .before .before .before .before)) (index t (c .before .before .before .before .before) .0) (index t (c .before .before .before .before .before) .1) (c .before .before .search .result) (found-first t (c .before .before)) (c .before .before .before .before .before .if3 .left) (λ e. let told = c .enum-told5 .given .1 in let z : _≡_ {A = ℕ} 0 1 = cc in omega arith)
+search-returns-7 t c = first-ends (c .before .before) (λ e. let told = c .enum-told5 .given .1 in let z : _≡_ {A = ℕ} 0 1 = cc in omega arith)
 
 search-returns-8 : (t : ℕ) → search-lts.Need-returns-8 (claims t) (search-at t) search′.Post
-search-returns-8 t c = ends-first (fieldsIn (c .before .before .before .before .before .before .before .before .before .before .before .before .before .before .before .before .before .args .input .now)) (c .before .before .before .before .before .before .before .before .before .before .before .before .before .before .before .before .before .args .v) (c .before .before .before .before .before .before .before .before .before .before .before .before .before .before .before .before .before .args .rooms) (positions t (c .before .before .before .before .before .before .before .before .before .before .before .before .before .before .before .before .before)) (rooms-long t (c .before .before .before .before .before .before .before .before .before .before .before .before .before .before .before .before .before)) (c .before .before .before .before .before .before .before .before .before .before .before .before .before .before .before .before .before .pre .1 .1) (c .before .before .before .before .before .before .before .before .before .before .before .before .before .before .before .before .before .args .allowed) (c .before .before .before .before .before .before .before .before .before .before .before .before .before .before .before .before .before .args .splits) (c .before .before .before .before .before .before .before .before .before .before .before .before .before .before .before .before .before .args .dead-ends) (c .before .before .before .before .before .before .before .before .before .before .before .before .before .before .before .shrink .result .rooms) (kept t (c .before .before .before .before .before .before .before .before .before .before .before .before)) (c .before .before .before .before .before .before .before .choose .result) (unsettled t (c .before .before .before .before .before)) (index t (c .before .before .before .before .before) .0) (index t (c .before .before .before .before .before) .1) (c .before .before .search .result) (found-first t (c .before .before)) (c .before .before .before .before .before .if3 .left) (λ e. let told = c .enum-told6 .given .1 in let z : _≡_ {A = ℕ} 0 1 = cc in omega arith)
+search-returns-8 t c = first-ends (c .before .before) (λ e. let told = c .enum-told6 .given .1 in let z : _≡_ {A = ℕ} 0 1 = cc in omega arith)
 
 pub +search-spec : {M : Type 1} → statement M
 +search-spec = close μ-search λ t. search-lts.spec (claims t)
