@@ -131,7 +131,7 @@ static void print_row(const struct workload *workload)
 {
     static const char *const words[] = { "PLAN", "NONE", "UNDECIDED" };
     struct reply planned, measured;
-    double start, planner_time, yardstick_time;
+    double start, planner_time, yardstick_time, per_byte;
     char planner_text[32], yardstick_text[32];
     int is_long;
 
@@ -162,11 +162,13 @@ static void print_row(const struct workload *workload)
         time_both(workload->allowance, &planner_time, &yardstick_time);
     rows++;
     rows_above += planner_time / yardstick_time > ratio_limit;
-    printf("%-9s | %7llu | %9llu | %10s | %10s | %6.2f |%s\n", words[planned.number],
+    /* the planner's time for a split and a byte of the file, where there is no split for a byte alone */
+    per_byte = planner_time / (double)(planned.splits > 0 ? planned.splits : 1) / (double)file.length;
+    printf("%-9s | %7llu | %9llu | %10s | %10s | %6.2f | %9.2f |%s\n", words[planned.number],
            (unsigned long long)planned.splits, (unsigned long long)planned.dead_ends,
            in_words(planner_time, planner_text, sizeof planner_text),
            in_words(yardstick_time, yardstick_text, sizeof yardstick_text), planner_time / yardstick_time,
-           is_long ? " one call" : "");
+           per_byte * 1e9, is_long ? " one call" : "");
 }
 
 /* ---- stack ---- */
@@ -231,11 +233,12 @@ int main(int argc, char **argv)
     const char *where = argc > 1 + quick ? argv[1 + quick] : "as this program was compiled and run";
 
     setvbuf(stdout, 0, _IOLBF, 0);
-    printf("Times of one call in milliseconds; %s.\n\n", where);
-    printf("| %-33s | %6s | %-9s | %7s | %9s | %10s | %10s | %6s |\n", "workload", "bytes", "reply", "splits",
-           "dead ends", "planner", "yardstick", "ratio");
-    printf("|%.35s|%.7s:|%.11s|%.8s:|%.10s:|%.11s:|%.11s:|%.7s:|\n", "-----------------------------------", "-----------",
-           "-----------", "-----------", "-----------", "-----------", "-----------", "-----------");
+    printf("Times of one call in milliseconds, and the planner's in nanoseconds for a split and a byte; %s.\n\n", where);
+    printf("| %-33s | %6s | %-9s | %7s | %9s | %10s | %10s | %6s | %9s |\n", "workload", "bytes", "reply", "splits",
+           "dead ends", "planner", "yardstick", "ratio", "ns");
+    printf("|%.35s|%.7s:|%.11s|%.8s:|%.10s:|%.11s:|%.11s:|%.7s:|%.10s:|\n", "-----------------------------------",
+           "-----------", "-----------", "-----------", "-----------", "-----------", "-----------", "-----------",
+           "-----------");
     for (size_t k = 0; k < workload_count; k++)
         if (!quick || workloads[k].quick)
             print_row(&workloads[k]);
