@@ -1,7 +1,7 @@
 -- Laws of settled boxes: going over named positions, values, atoms and fields one by one, and what the clauses of an equality ask. Assumes nothing.
 use mathlib.Core.Path.{_≡_, refl, sym, ap, ap₂, _∙_, subst, subst₂}
 use mathlib.Core.Logic.{⊎-elim}
-use mathlib.Core.Bool.{Bool, true, false, _&&_, _||_, and-assoc, and-true, or-false}
+use mathlib.Core.Bool.{Bool, true, false, not, _&&_, _||_, Bool·beq, and-assoc, and-true, or-false}
 use mathlib.Core.List.{List, [], _∷_, _++_, map, List·Memᴰ, List·Memᴰ·head, List·Memᴰ·tail, List·Memᴰ·not-nil, List·Memᴰ·cases-cons}
 use Prim.Native.Nat.{ℕ, suc, _+_, _-_, _/_, _^_, _≤_, _<_}
 use lib.Dec.{T}
@@ -27,7 +27,7 @@ use Rattle.steps.specs.Shrinking.{united, settledBy, settledClause, settledClau
 use Rattle.steps.proofs.BoxLaws.{every-at-place}
 use Rattle.steps.proofs.LiveLaws.{member-united}
 use Rattle.boxes.specs.United.{PositionsFit, AtomsFit, Atoms, unitedSets}
-use Rattle.boxes.specs.Rooms.{everyInside, someInside, fileOf, fieldsIn, SoundInput}
+use Rattle.boxes.specs.Rooms.{someRoom, fileOf, fieldsIn, SoundInput}
 use Rattle.boxes.specs.Scans.{atomsFrom, AtomsFrom}
 use Rattle.boxes.proofs.UnitedLaws.{united-sets-at}
 use Rattle.boxes.proofs.AtomsInTurn.{atoms-all, atoms-start, atoms-end, atoms-next, atom-fits, atom-listed, atoms-on-from}
@@ -80,19 +80,20 @@ module _ (v m count i : ℕ) (rooms ps : List ℕ) {b : Bool} (there : i < count
   room-inside : inside (roomAt (take v rooms) (getD ps i 0)) m ≡ b
   room-inside = let p = position-named count i ps there fits v named in ap (λ (room : ℕ). inside room m) (room-there v (getD ps i 0) rooms (p .0) (p .1)) ∙ sym here
 
-  -- every position from i on has its room inside the set: the first has, and the others
-  pub every-inside-on : everyInside (take v rooms) m (take (count - i) (drop i ps)) ≡ (b && everyInside (take v rooms) m (take (count - (i + 1)) (drop (i + 1) ps)))
-  unfolding everyInside
-  every-inside-on =
-      ap (everyInside (take v rooms) m) (positions-on count i ps there fits)
-      ∙ ap (λ (t : Bool). t && everyInside (take v rooms) m (take (count - (i + 1)) (drop (i + 1) ps))) room-inside
+  -- some position from i on has a room as asked: the first has, or one of the others
+  pub some-room-on : (asked : Bool) → someRoom asked (take v rooms) m (take (count - i) (drop i ps)) ≡ (Bool·beq b asked || someRoom asked (take v rooms) m (take (count - (i + 1)) (drop (i + 1) ps)))
+  unfolding someRoom
+  some-room-on asked =
+      ap (someRoom asked (take v rooms) m) (positions-on count i ps there fits)
+      ∙ ap (λ (t : Bool). Bool·beq t asked || someRoom asked (take v rooms) m (take (count - (i + 1)) (drop (i + 1) ps))) room-inside
 
-  -- some position from i on has its room inside the set: the first has, or one of the others
-  pub some-inside-on : someInside (take v rooms) m (take (count - i) (drop i ps)) ≡ (b || someInside (take v rooms) m (take (count - (i + 1)) (drop (i + 1) ps)))
-  unfolding someInside
-  some-inside-on =
-      ap (someInside (take v rooms) m) (positions-on count i ps there fits)
-      ∙ ap (λ (t : Bool). t || someInside (take v rooms) m (take (count - (i + 1)) (drop (i + 1) ps))) room-inside
+same-as-true : (a : Bool) → Bool·beq a true ≡ a
+same-as-true true = refl
+same-as-true false = refl
+
+none-outside : (a later : Bool) → not (Bool·beq a false || later) ≡ (a && not later)
+none-outside true later = refl
+none-outside false later = refl
 
 -- ---- the clauses of an equality
 
@@ -111,23 +112,29 @@ united-same m q ps t = member-extensional (united q (map (atomIn m) ps)) m (λ x
     back x u = member-united q x (map (atomIn m) ps) .1 (some-over-map (Has x) (atomIn m) ps .1 (some-of-listed (λ p. Has x (atomIn m p)) t (refl, u)))
 
 some-inside-by : (box : List ℕ) (m : ℕ) (qs ps : List ℕ) → ((q : ℕ) → List·Memᴰ q qs → List·Memᴰ q ps)
-    → someInside box m qs ≡ settledBy (map (atomIn m) qs) (map (atomIn m) ps) box
-unfolding someInside settledBy atomIn
+    → someRoom true box m qs ≡ settledBy (map (atomIn m) qs) (map (atomIn m) ps) box
+unfolding someRoom settledBy atomIn
 some-inside-by box m [] ps among = refl
 some-inside-by box m (q ∷ qs) ps among =
-    ap₂ (λ (n : ℕ) (later : Bool). inside (roomAt box q) n || later) (sym (united-same m q ps (among q (List·Memᴰ·head refl))))
+    ap (λ (t : Bool). t || someRoom true box m qs) (same-as-true (inside (roomAt box q) m))
+    ∙ ap₂ (λ (n : ℕ) (later : Bool). inside (roomAt box q) n || later) (sym (united-same m q ps (among q (List·Memᴰ·head refl))))
     (some-inside-by box m qs ps (λ p t. among p (List·Memᴰ·tail t)))
 
 -- some named position has its room inside the set: the clause "one of the named positions is in the set" is settled
-pub some-inside-clause : (box : List ℕ) (m : ℕ) (ps : List ℕ) → someInside box m ps ≡ settledClause box (map (atomIn m) ps)
+pub some-inside-clause : (box : List ℕ) (m : ℕ) (ps : List ℕ) → someRoom true box m ps ≡ settledClause box (map (atomIn m) ps)
 unfolding settledClause
 some-inside-clause box m ps = some-inside-by box m ps ps (λ q t. t)
 
--- every named position has its room inside the set: for each the clause "it is in the set" is settled
-pub every-inside-clauses : (box : List ℕ) (m : ℕ) (ps : List ℕ) → everyInside box m ps ≡ settledClauses box (map (λ p. atomIn m p ∷ []) ps)
-unfolding everyInside settledClauses someInside
+-- no named position has a room that is not inside the set: for each the clause "it is in the set" is settled
+pub every-inside-clauses : (box : List ℕ) (m : ℕ) (ps : List ℕ) → not (someRoom false box m ps) ≡ settledClauses box (map (λ p. atomIn m p ∷ []) ps)
+unfolding someRoom settledClauses
 every-inside-clauses box m [] = refl
-every-inside-clauses box m (p ∷ ps) = ap₂ (λ (b c : Bool). b && c) (sym (or-false (inside (roomAt box p) m)) ∙ some-inside-clause box m (p ∷ [])) (every-inside-clauses box m ps)
+every-inside-clauses box m (p ∷ ps) =
+    none-outside (inside (roomAt box p) m) (someRoom false box m ps)
+    ∙ ap₂ (λ (b c : Bool). b && c) (one ∙ some-inside-clause box m (p ∷ [])) (every-inside-clauses box m ps)
+  where
+    one : inside (roomAt box p) m ≡ someRoom true box m (p ∷ [])
+    one = sym (or-false (Bool·beq (inside (roomAt box p) m) true) ∙ same-as-true (inside (roomAt box p) m))
 
 settled-append : (box : List ℕ) (cs ds : List (List Atom)) → settledClauses box (cs ++ ds) ≡ (settledClauses box cs && settledClauses box ds)
 unfolding settledClauses
@@ -139,13 +146,13 @@ abbrev pub valuesSettled : List ℕ → List ℕ → ℕ → Bool
 valuesSettled box ps m = settledClauses box (map (λ x. map (atomIn (single x)) ps) (values m))
 
 -- an equality is settled: every named position has its room inside the set, and every value's clause is settled
-pub equality-parts : (box : List ℕ) (len : ℕ) (content : List ℕ) {m : ℕ} {rest : List ℕ} {b : Bool} → m ≡ setAt content 0 → rest ≡ drop 4 content → b ≡ everyInside box m (take (len - 4) rest)
-    → settledRule box (ruleOf Equality len content) ≡ (b && valuesSettled box (take (len - 4) rest) m)
+pub equality-parts : (box : List ℕ) (len : ℕ) (content : List ℕ) {m : ℕ} {rest : List ℕ} {b : Bool} → m ≡ setAt content 0 → rest ≡ drop 4 content → b ≡ someRoom false box m (take (len - 4) rest)
+    → settledRule box (ruleOf Equality len content) ≡ (not b && valuesSettled box (take (len - 4) rest) m)
 unfolding ruleOf settledRule clausesOf equalityClauses
 equality-parts box len content {m} {rest} e f g =
     ap₂ (λ (k : ℕ) (l : List ℕ). settledClauses box (equalityClauses k (take (len - 4) l))) (sym e) (sym f)
     ∙ settled-append box (map (λ p. atomIn m p ∷ []) ps) (map (λ x. map (atomIn (single x)) ps) (values m))
-    ∙ ap (λ (t : Bool). t && valuesSettled box ps m) (sym (g ∙ every-inside-clauses box m ps))
+    ∙ ap (λ (t : Bool). t && valuesSettled box ps m) (sym (ap not g ∙ every-inside-clauses box m ps))
   where
     ps : List ℕ
     ps = take (len - 4) rest
@@ -156,12 +163,12 @@ unfolding settledClauses
 values-settled-none box ps = ap (λ (xs : List ℕ). settledClauses box (map (λ x. map (atomIn (single x)) ps) xs)) values-of-empty
 
 -- every value's clause is settled: that of the smallest, and those of the other values
-pub values-settled-on : (box ps : List ℕ) (m : ℕ) {one : ℕ} {b : Bool} → m < 2 ^ 32 → (m ≡ 0 → ⊥) → one ≡ single (smallest m) → b ≡ someInside box one ps
+pub values-settled-on : (box ps : List ℕ) (m : ℕ) {one : ℕ} {b : Bool} → m < 2 ^ 32 → (m ≡ 0 → ⊥) → one ≡ single (smallest m) → b ≡ someRoom true box one ps
     → valuesSettled box ps m ≡ (b && valuesSettled box ps (others m))
 unfolding settledClauses
 values-settled-on box ps m h ne e f =
     ap (λ (xs : List ℕ). settledClauses box (map (λ x. map (atomIn (single x)) ps) xs)) (values-others m h ne)
-    ∙ ap (λ (t : Bool). t && valuesSettled box ps (others m)) (sym (f ∙ ap (λ (k : ℕ). someInside box k ps) e ∙ some-inside-clause box (single (smallest m)) ps))
+    ∙ ap (λ (t : Bool). t && valuesSettled box ps (others m)) (sym (f ∙ ap (λ (k : ℕ). someRoom true box k ps) e ∙ some-inside-clause box (single (smallest m)) ps))
 
 -- ---- the atoms of a clause
 

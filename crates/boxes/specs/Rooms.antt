@@ -1,7 +1,7 @@
 -- What the functions of `src/shrink.rt` and `src/settle.rt` promise: sound inputs, rounds, and rooms in an array of 64. Assumes nothing.
 use Prim.Native.Nat.{ℕ}
 use mathlib.Core.Path.{_≡_}
-use mathlib.Core.Bool.{Bool, true, false, _&&_, _||_}
+use mathlib.Core.Bool.{Bool, false, _||_, Bool·beq}
 use mathlib.Core.List.{List, [], _∷_, _++_}
 use lib.ListN.{replicate}
 use Rattle.sets.specs.Sets.{inside}
@@ -37,12 +37,7 @@ unfoldable pub shrunkRooms : Look → List ℕ → Shrunk
 shrunkRooms (dead place) rest = record { verdict = Dead place; rooms = replicate 64 0 }
 shrunkRooms (alive box) rest = record { verdict = Alive; rooms = box ++ rest }
 
--- every named position has its room inside the set
-unfoldable pub everyInside : List ℕ → ℕ → List ℕ → Bool
-everyInside box m [] = true
-everyInside box m (p ∷ ps) = inside (roomAt box p) m && everyInside box m ps
-
--- some named position has
-unfoldable pub someInside : List ℕ → ℕ → List ℕ → Bool
-someInside box m [] = false
-someInside box m (p ∷ ps) = inside (roomAt box p) m || someInside box m ps
+-- some named position has a room of which it is as asked, true or not, that it lies inside the set
+unfoldable pub someRoom : Bool → List ℕ → ℕ → List ℕ → Bool
+someRoom asked box m [] = false
+someRoom asked box m (p ∷ ps) = Bool·beq (inside (roomAt box p) m) asked || someRoom asked box m ps

@@ -10,7 +10,7 @@ ghost use Rattle.rules.specs.Reading.{ruleOf, atomsOf};
 ghost use Rattle.rules.specs.declared.field.Tag.the-variants.{Equality};
 ghost use Rattle.steps.specs.Shrinking.{settledClause, settledClauses, settledRule, settled};
 ghost use Rattle.boxes.specs.United.{PositionsFit, Atoms};
-ghost use Rattle.boxes.specs.Rooms.{SoundInput, fieldsIn, everyInside, someInside};
+ghost use Rattle.boxes.specs.Rooms.{SoundInput, fieldsIn, someRoom};
 use super::united::united_atoms;
 use rules::field::Tag;
 use rules::field::atom_at;
@@ -18,33 +18,24 @@ use rules::field::head_at;
 use rules::field::set_at;
 use sets::Room;
 
-// Whether every position that the first so many bytes name has its room inside the set.
-fn every_inside(rooms: &[u32; 64], positions: &[u8], count: usize, mask: u32, v: usize) -> bool
+// Whether some position that the first so many bytes name has a room of which it is true, or not true,
+// as asked, that it lies inside the set.
+fn some_room(
+    rooms: &[u32; 64],
+    positions: &[u8],
+    count: usize,
+    mask: u32,
+    v: usize,
+    asked: bool,
+) -> bool
     requires { ⌜ (count ≤ length (now positions)) × (v ≤ 64) × PositionsFit v (take count (now positions)) ⌝ }
-    ensures { λ r. ⌜ r ≡ everyInside (take v (now (rooms .entry))) mask (take count (now (positions .entry))) ⌝ }
+    ensures { λ r. ⌜ r ≡ someRoom asked (take v (now (rooms .entry))) mask (take count (now (positions .entry))) ⌝ }
 {
     let mut i = 0;
     while i < count {
         let at = positions[i] as usize - 1;
         let room = Room { mask: rooms[at] };
-        if !room.inside(Room { mask }) {
-            return false;
-        }
-        i += 1;
-    }
-    true
-}
-
-// Whether some position that the first so many bytes name has its room inside the set.
-fn some_inside(rooms: &[u32; 64], positions: &[u8], count: usize, mask: u32, v: usize) -> bool
-    requires { ⌜ (count ≤ length (now positions)) × (v ≤ 64) × PositionsFit v (take count (now positions)) ⌝ }
-    ensures { λ r. ⌜ r ≡ someInside (take v (now (rooms .entry))) mask (take count (now (positions .entry))) ⌝ }
-{
-    let mut i = 0;
-    while i < count {
-        let at = positions[i] as usize - 1;
-        let room = Room { mask: rooms[at] };
-        if room.inside(Room { mask }) {
+        if room.inside(Room { mask }) == asked {
             return true;
         }
         i += 1;
@@ -61,7 +52,7 @@ fn every_value_taken(rooms: &[u32; 64], positions: &[u8], count: usize, mask: u3
     while left != 0 {
         let open = Room { mask: left };
         let one = Room::single(open.smallest());
-        if !some_inside(rooms, positions, count, one.mask, v) {
+        if !some_room(rooms, positions, count, one.mask, v, true) {
             return false;
         }
         left = open.common(one.complement(Room::VALUES)).mask;
@@ -76,7 +67,7 @@ fn settled_equality(rooms: &[u32; 64], content: &[u8], len: usize, v: usize) -> 
 {
     let mask = set_at(content, 0);
     let positions = &content[4..];
-    if !every_inside(rooms, positions, len - 4, mask, v) {
+    if some_room(rooms, positions, len - 4, mask, v, false) {
         return false;
     }
     every_value_taken(rooms, positions, len - 4, mask, v)

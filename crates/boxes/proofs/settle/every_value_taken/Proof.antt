@@ -22,16 +22,16 @@ one : (c : tie.After-single Inv-loop μ-loop) → c .single .result .mask ≡ si
 one c = c .single .ensures .result ∙ ap single (c .before .smallest .ensures .result)
 
 -- after the smallest value was looked for: its clause, and those of the other values
-scanned : (c : tie.After-some-inside Inv-loop μ-loop)
+scanned : (c : tie.After-some-room Inv-loop μ-loop)
     → valuesSettled (take (c .before .before .before .before .before .before .args .v) (c .before .before .before .before .before .before .args .rooms .now))
     (take (c .before .before .before .before .before .before .args .count) (c .before .before .before .before .before .before .args .positions .now)) (c .before .before .before .before .before .before .args .mask)
-    ≡ (c .some-inside .result && valuesSettled (take (c .before .before .before .before .before .before .args .v) (c .before .before .before .before .before .before .args .rooms .now))
+    ≡ (c .some-room .result && valuesSettled (take (c .before .before .before .before .before .before .args .v) (c .before .before .before .before .before .before .args .rooms .now))
     (take (c .before .before .before .before .before .before .args .count) (c .before .before .before .before .before .before .args .positions .now)) (others (c .before .before .before .before .loop .left)))
 scanned c =
     let here = c .before .before .before .before in
     let a = here .before .before .args in
     here .loop .inv .1
-    ∙ values-settled-on (take (a .v) (a .rooms .now)) (take (a .count) (a .positions .now)) (here .loop .left) (here .loop .inv .0) (c .before .before .before .loop-test .taken) (one (c .before)) (c .some-inside .ensures)
+    ∙ values-settled-on (take (a .v) (a .rooms .now)) (take (a .count) (a .positions .now)) (here .loop .left) (here .loop .inv .0) (c .before .before .before .loop-test .taken) (one (c .before)) (c .some-room .ensures)
 
 -- what is left are the other values
 rest : (c : tie.After-common Inv-loop μ-loop) → c .common .result .mask ≡ others (c .before .before .before .before .before .before .before .loop .left)
@@ -49,11 +49,11 @@ smallest-requires c κs = tt
 single-requires : tie.Need-single-requires Inv-loop μ-loop
 single-requires c κs = tt
 
-some-inside-requires : tie.Need-some-inside-requires Inv-loop μ-loop
-some-inside-requires c κs = c .before .before .before .before .before .pre
+some-room-requires : tie.Need-some-room-requires Inv-loop μ-loop
+some-room-requires c κs = c .before .before .before .before .before .pre
 
 returns : tie.Need-returns Inv-loop μ-loop
-returns c = sym (all-fail (c .before .some-inside .result) _ (scanned (c .before)) (not-true _ (c .if1 .taken)))
+returns c = sym (all-fail (c .before .some-room .result) _ (scanned (c .before)) (not-true _ (c .if1 .taken)))
 
 complement-requires : tie.Need-complement-requires Inv-loop μ-loop
 complement-requires c κs = tt
@@ -71,7 +71,7 @@ loop-again c =
     let here = c .before .before .before .before .before .before .before in
     let a = here .before .before .args in (
       subst (λ (m : ℕ). m < 2 ^ 32) (sym (rest c)) (others-below (here .loop .left) (here .loop .inv .0)),
-      all-on (c .before .before .before .some-inside .result) _ (scanned (c .before .before .before)) (not-false _ (c .before .before .if1 .left))
+      all-on (c .before .before .before .some-room .result) _ (scanned (c .before .before .before)) (not-false _ (c .before .before .if1 .left))
           ∙ ap (valuesSettled (take (a .v) (a .rooms .now)) (take (a .count) (a .positions .now))) (sym (rest c)),
     )
 
@@ -91,7 +91,7 @@ every-value-taken-spec =
     loop-holds
     smallest-requires
     single-requires
-    some-inside-requires
+    some-room-requires
     returns
     complement-requires
     common-requires

@@ -1,12 +1,11 @@
 -- `boxes::settle::settled_equality` meets its contract: every named position inside the set, and every value's clause settled. Assumes nothing.
-use mathlib.Core.Path.{_≡_, sym, _∙_, subst}
-use mathlib.Core.Bool.{_&&_}
+use mathlib.Core.Path.{_≡_, sym, ap, _∙_, subst}
+use mathlib.Core.Bool.{not, _&&_}
 use mathlib.Core.List.{List}
 use Prim.Native.Nat.{ℕ, _-_, _≤_}
 use native.Mathlib.Omega.{arith}
 use lib.ListN.{length, take, drop, length-drop}
 use borrow.Author.Needs.{needs}
-use borrow.Author.Tests.{not-true, not-false}
 use Rattle.rules.specs.declared.field.Tag.the-variants.{Equality}
 use Rattle.rules.specs.Reading.{ruleOf}
 use Rattle.rules.proofs.ByteLaws.{rest-part}
@@ -23,15 +22,15 @@ part-fits len v content h l k fit =
     subst (λ (bytes : List ℕ). (len - 4 ≤ length bytes) × (v ≤ 64) × PositionsFit v (take (len - 4) bytes)) (sym (rest-part 4 content)) (omega (arith, length-drop 4 content), k, fit)
 
 -- the equality is settled: the positions' test, and the values'
-parts : (c : tie.After-every-inside)
+parts : (c : tie.After-some-room)
     → settledRule (take (c .before .before .before .before .args .v) (c .before .before .before .before .args .rooms .now))
     (ruleOf Equality (c .before .before .before .before .args .len) (c .before .before .before .before .args .content .now))
-    ≡ (c .every-inside .result && valuesSettled (take (c .before .before .before .before .args .v) (c .before .before .before .before .args .rooms .now))
+    ≡ (not (c .some-room .result) && valuesSettled (take (c .before .before .before .before .args .v) (c .before .before .before .before .args .rooms .now))
     (take (c .before .before .before .before .args .len - 4) (take (length (c .before .before .before .before .args .content .now) - 4) (drop 4 (c .before .before .before .before .args .content .now))))
     (c .before .before .set-at .result))
 parts c =
     let a = c .before .before .before .before .args in
-    equality-parts (take (a .v) (a .rooms .now)) (a .len) (a .content .now) (c .before .before .set-at .ensures) (rest-part 4 (a .content .now)) (c .every-inside .ensures)
+    equality-parts (take (a .v) (a .rooms .now)) (a .len) (a .content .now) (c .before .before .set-at .ensures) (rest-part 4 (a .content .now)) (c .some-room .ensures)
 
 set-at-requires : tie.Need-set-at-requires
 set-at-requires c κs = search needs
@@ -45,16 +44,16 @@ part-positions-start c = search needs
 part-positions-end : tie.Need-part-positions-end
 part-positions-end c = search needs
 
-sub-every-inside : tie.Need-sub-every-inside
-sub-every-inside c = search needs
+sub-some-room : tie.Need-sub-some-room
+sub-some-room c = search needs
 
-every-inside-requires : tie.Need-every-inside-requires
-every-inside-requires c κs =
+some-room-requires : tie.Need-some-room-requires
+some-room-requires c κs =
     let start = c .before .before .before in
     part-fits (start .args .len) (start .args .v) (start .args .content .now) (start .pre .0) (start .pre .1) (start .pre .2) (start .pre .3)
 
 returns : tie.Need-returns
-returns c = sym (all-fail (c .before .every-inside .result) _ (parts (c .before)) (not-true _ (c .if1 .taken)))
+returns c = sym (all-fail _ _ (parts (c .before)) (ap not (c .if1 .taken)))
 
 sub-every-value-taken : tie.Need-sub-every-value-taken
 sub-every-value-taken c = search needs
@@ -65,7 +64,7 @@ every-value-taken-requires c κs =
     part-fits (start .args .len) (start .args .v) (start .args .content .now) (start .pre .0) (start .pre .1) (start .pre .2) (start .pre .3)
 
 returns-2 : tie.Need-returns-2
-returns-2 c = c .every-value-taken .ensures ∙ sym (all-on (c .before .before .every-inside .result) _ (parts (c .before .before)) (not-false _ (c .before .if1 .left)))
+returns-2 c = c .every-value-taken .ensures ∙ sym (all-on _ _ (parts (c .before .before)) (ap not (c .before .if1 .left)))
 
 pub settled-equality-spec : {M : Type 1} → statement M
 settled-equality-spec =
@@ -75,8 +74,8 @@ settled-equality-spec =
     sub-positions
     part-positions-start
     part-positions-end
-    sub-every-inside
-    every-inside-requires
+    sub-some-room
+    some-room-requires
     returns
     sub-every-value-taken
     every-value-taken-requires
