@@ -14,7 +14,7 @@ use Rattle.rules.specs.Clauses.{clausesOf}
 use Rattle.rules.specs.Reading.{headOf, atomsOf, ruleOf, ruleAt, fieldFault}
 use Rattle.rules.proofs.ByteLaws.{rest-part}
 use Rattle.steps.specs.Shrinking.{Look, dead, alive, ifAlive, lookClause, lookClauses, lookRule}
-use Rattle.boxes.specs.United.{AtomsFit, Atoms, PositionsFit, Looked}
+use Rattle.boxes.specs.Looks.{AtomsFit, Atoms, PositionsFit, Looked}
 use Rattle.boxes.proofs.InputLaws.{field-there, rule-here, no-header-here, no-unknown-here, clause-here, equality-here}
 
 -- ---- a look at a rule that is a clause

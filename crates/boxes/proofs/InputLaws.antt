@@ -21,7 +21,7 @@ use Rattle.rules.proofs.FieldLaws.{clause-length, equality-length}
 use Rattle.rules.proofs.ReadingLaws.{refuse-for-sound}
 use Rattle.rules.proofs.CheckLaws.{next-within}
 use Rattle.rules.proofs.WalkLaws.{Rest, rest-start}
-use Rattle.boxes.specs.United.{PositionsFit}
+use Rattle.boxes.specs.Looks.{PositionsFit}
 use Rattle.boxes.specs.Rooms.{fileOf, fieldsIn, SoundInput}
 
 -- ---- a sound input

@@ -13,7 +13,7 @@ use Rattle.steps.specs.Boxes.{roomAt, withRoom}
 use Rattle.steps.specs.Shrinking.{Look, dead, alive, ifAlive, united, cut, lookClause, lookClauses}
 use Rattle.steps.proofs.ClauseLaws.{Looked as Found, none-live, one-live, more-live, looked}
 use Rattle.steps.proofs.InTurn.{dead-not-alive}
-use Rattle.boxes.specs.United.{Looked}
+use Rattle.boxes.specs.Looks.{Looked}
 
 -- ---- at lists of clauses
 

@@ -19,13 +19,13 @@ use Rattle.steps.specs.Boxes.{roomAt, withRoom}
 use Rattle.steps.specs.Shrinking.{Look, dead, alive, uniteIf, united, isLive, cut, lookClause}
 use Rattle.steps.proofs.LiveLaws.{live-not-empty}
 use Rattle.steps.proofs.ClauseLaws.{LiveIn, Looked as Found, none-live, one-live, more-live, looked}
-use Rattle.boxes.specs.United.{Looked}
+use Rattle.boxes.specs.Looks.{Looked}
 use Rattle.boxes.specs.Scans.{atomsFrom, AtomsFrom, sharedIn, Scanned, cutTo}
 use Rattle.boxes.proofs.AtomsInTurn.{atoms-next, atom-fits}
 
 -- ---- unions and what they share
 
-union-empty : (m : ℕ) → union m 0 ≡ m
+pub union-empty : (m : ℕ) → union m 0 ≡ m
 union-empty m = member-extensional (union m 0) m λ x. (λ t. ⊎-elim (λ u. u) (λ u. absurd (member-empty x u)) (member-union x m 0 .0 t), λ t. member-union x m 0 .1 (inl t))
 
 pub empty-union : (m : ℕ) → union 0 m ≡ m

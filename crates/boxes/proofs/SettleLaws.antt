@@ -2,14 +2,15 @@
 use mathlib.Core.Path.{_≡_, refl, sym, ap, ap₂, _∙_, subst, subst₂}
 use mathlib.Core.Logic.{⊎-elim}
 use mathlib.Core.Bool.{Bool, true, false, not, _&&_, _||_, Bool·beq, and-assoc, and-true, or-false}
-use mathlib.Core.List.{List, [], _∷_, _++_, map, List·Memᴰ, List·Memᴰ·head, List·Memᴰ·tail, List·Memᴰ·not-nil, List·Memᴰ·cases-cons}
-use Prim.Native.Nat.{ℕ, suc, _+_, _-_, _/_, _^_, _≤_, _<_}
+use mathlib.Core.List.{List, [], _∷_, _++_, map, List·Memᴰ, List·Memᴰ·head, List·Memᴰ·tail, List·Memᴰ·not-nil, List·Memᴰ·cases-cons, List·Memᴰ·eq-of-singleton}
+use Prim.Native.Nat.{ℕ, suc, _+_, _-_, _*_, _/_, _^_, _≤_, _<_}
 use lib.Dec.{T}
 use native.Mathlib.Numerals.{add-one}
+use native.Mathlib.Decide.{ℕ-discrete}
 use native.Mathlib.Omega.{arith}
-use lib.ListN.{length, getD, take, drop, length-take, length-drop}
+use lib.ListN.{length, getD, set, replicate, take, drop, length-take, length-drop}
 use lib.Seq.{drop-cons, getD-take}
-use Rattle.sets.specs.Sets.{member, inside, single, values, smallest, others}
+use Rattle.sets.specs.Sets.{member, union, inside, single, values, smallest, others}
 use Rattle.sets.proofs.Members.{test-true, true-test}
 use Rattle.sets.proofs.Sameness.{member-extensional, inside-iff}
 use Rattle.sets.proofs.Smallest.{values-others, values-of-empty}
@@ -20,17 +21,18 @@ use Rattle.rules.specs.declared.field.Tag.the-variants.{Header, Clause, Equalit
 use Rattle.rules.specs.Rules.{Rule, Field}
 use Rattle.rules.specs.Reading.{atomOf, atomsOf, headOf, ruleOf, setAt, sizeOf, fieldFault, reading}
 use Rattle.rules.specs.Clauses.{atomIn, equalityClauses, clausesOf}
-use Rattle.rules.proofs.ListLaws.{some-of-listed, listed-of-some, some-over-map, every-map}
+use Rattle.rules.proofs.ListLaws.{some-of-listed, listed-of-some, some-over-map, every-of-listed}
 use Rattle.rules.proofs.WalkLaws.{Rest, rest-on, rest-end}
 use Rattle.steps.specs.Boxes.{roomAt}
 use Rattle.steps.specs.Shrinking.{united, settledBy, settledClause, settledClauses, settledRule, settled}
 use Rattle.steps.proofs.BoxLaws.{every-at-place}
 use Rattle.steps.proofs.LiveLaws.{member-united}
-use Rattle.boxes.specs.United.{PositionsFit, AtomsFit, Atoms, unitedSets}
+use Rattle.boxes.specs.Looks.{PositionsFit, Atoms}
 use Rattle.boxes.specs.Rooms.{someRoom, fileOf, fieldsIn, SoundInput}
-use Rattle.boxes.specs.Scans.{atomsFrom, AtomsFrom}
-use Rattle.boxes.proofs.UnitedLaws.{united-sets-at}
-use Rattle.boxes.proofs.AtomsInTurn.{atoms-all, atoms-start, atoms-end, atoms-next, atom-fits, atom-listed, atoms-on-from}
+use Rattle.boxes.specs.Scans.{AtomsFrom}
+use Rattle.boxes.proofs.UnitedLaws.{unitedSets, united-sets-at, united-sets-none, united-here, united-elsewhere, united-sets-more, atom-here, atomsBehind, atoms-before, behind-all, behind-none}
+use Rattle.boxes.proofs.AtomsInTurn.{atom-fits, atom-listed}
+use Rattle.boxes.proofs.ScanLaws.{union-empty}
 use Rattle.boxes.proofs.InputLaws.{sound-limits, sound-rest, field-there, rule-here, no-header-here, no-unknown-here, clause-here, equality-here}
 
 -- ---- tests in a row
@@ -172,92 +174,177 @@ values-settled-on box ps m h ne e f =
 
 -- ---- the atoms of a clause
 
--- an atom of the clause whose set has its position's room inside it shows the clause settled
-listed-settles : (box : List ℕ) (some atoms : List Atom) → ((c : Atom) → List·Memᴰ c some → List·Memᴰ c atoms) → (a : Atom) → List·Memᴰ a some → T (inside (roomAt box (a .position)) (a .set))
-    → settledBy some atoms box ≡ true
-unfolding settledBy
-listed-settles box [] atoms among a t h = absurd (List·Memᴰ·not-nil t)
-listed-settles box (c ∷ more) atoms among a t h =
-    ⊎-elim (λ e. any-holds (inside (roomAt box (c .position)) (united (c .position) atoms)) _ refl (test-true _ (wider c (among c (List·Memᴰ·head refl)) (subst (λ (d : Atom). T (inside (roomAt box (d .position)) (d .set))) e h))))
-    (λ u. or-true (inside (roomAt box (c .position)) (united (c .position) atoms)) (listed-settles box more atoms (λ d w. among d (List·Memᴰ·tail w)) a u h))
-    (List·Memᴰ·cases-cons t)
-  where
-    -- the union of a position's sets has every value of each of them
-    wider : (d : Atom) → List·Memᴰ d atoms → T (inside (roomAt box (d .position)) (d .set)) → T (inside (roomAt box (d .position)) (united (d .position) atoms))
-    wider d u k =
-        inside-iff (roomAt box (d .position)) (united (d .position) atoms) .1
-        (λ x w. member-united (d .position) x atoms .1 (some-of-listed (λ b. (b .position ≡ d .position) × member x (b .set)) u (refl, inside-iff (roomAt box (d .position)) (d .set) .0 k x w)))
-
-    or-true : (b : Bool) {later : Bool} → later ≡ true → (b || later) ≡ true
-    or-true true e = refl
-    or-true false e = e
-
--- its atoms are on positions from 1 to 64
-pub fits-64 : {v len : ℕ} {content : List ℕ} → Atoms v len content → AtomsFit 64 (atomsOf (len / 5) content)
-fits-64 {v} {len} {content} atoms =
-    every-map (λ a. (1 ≤ a .position) × (a .position ≤ v)) (λ a. (1 ≤ a .position) × (a .position ≤ 64)) (atomsOf (len / 5) content)
-    (λ a h. (h .0, omega (arith, h .1, atoms .few))) (atoms .fit)
-
--- the atoms from i on are left: whether one of them shows the clause settled decides
-pub record AtomsLeft (v len i : ℕ) (rooms content : List ℕ) : Type 0 where
-  pub from : AtomsFrom v len i content
-  pub decide : settledClause (take v rooms) (atomsOf (len / 5) content) ≡ settledBy (atomsFrom len i content) (atomsOf (len / 5) content) (take v rooms)
-
--- at the start all atoms are left
-pub atoms-left-start : {v len : ℕ} (rooms : List ℕ) {content : List ℕ} → Atoms v len content → AtomsLeft v len 0 rooms content
-unfolding settledClause
-atoms-left-start {v} {len} rooms {content} atoms = record {
-  from = atoms-start atoms;
-  decide = ap (λ (bs : List Atom). settledBy bs (atomsOf (len / 5) content) (take v rooms)) (sym (atoms-all len content));
-}
-
--- where none is left the clause is not settled
-pub atoms-left-none : {v len i : ℕ} {rooms content : List ℕ} → AtomsLeft v len i rooms content → len ≤ i → settledClause (take v rooms) (atomsOf (len / 5) content) ≡ false
-unfolding settledBy
-atoms-left-none {v} {len} {i} {rooms} {content} left past =
-    left .decide ∙ ap (λ (bs : List Atom). settledBy bs (atomsOf (len / 5) content) (take v rooms)) (atoms-end len i content past)
-
-module _ {v len i : ℕ} {rooms content : List ℕ} (left : AtomsLeft v len i rooms content) (there : i < len) {a : Atom} (here : a ≡ atomOf (drop i content))
-    {sets : List ℕ} {b : Bool} (few : v ≤ 64) (same : sets ≡ unitedSets (atomsOf (len / 5) content)) (test : b ≡ inside (getD rooms (a .position - 1) 0) (getD sets (a .position - 1) 0)) where
-  fits : (1 ≤ a .position) × (a .position ≤ v)
-  fits = atom-fits (left .from) there here
-
-  united-here : getD sets (a .position - 1) 0 ≡ united (a .position) (atomsOf (len / 5) content)
-  united-here =
-      ap (λ (l : List ℕ). getD l (a .position - 1) 0) same
-      ∙ united-sets-at (atomsOf (len / 5) content) (a .position - 1) (omega (arith, fits))
-      ∙ ap (λ (p : ℕ). united p (atomsOf (len / 5) content)) back
+module _ (box : List ℕ) (atoms : List Atom) where
+  -- a room that lies inside the union of some of the atoms lies inside that of all
+  wider : (p : ℕ) (some : List Atom) → ((c : Atom) → List·Memᴰ c some → List·Memᴰ c atoms) → T (inside (roomAt box p) (united p some)) → T (inside (roomAt box p) (united p atoms))
+  wider p some among t = inside-iff (roomAt box p) (united p atoms) .1 (λ x u. have x (inside-iff (roomAt box p) (united p some) .0 t x u))
     where
-      back : a .position - 1 + 1 ≡ a .position
-      back = omega (arith, fits)
+      have : (x : ℕ) → member x (united p some) → member x (united p atoms)
+      have x u =
+          let found = listed-of-some (λ b. (b .position ≡ p) × member x (b .set)) some (member-united p x some .0 u) in
+          member-united p x atoms .1 (some-of-listed (λ b. (b .position ≡ p) × member x (b .set)) (among (found .0) (found .1)) (found .2))
 
-  test-here : inside (roomAt (take v rooms) (a .position)) (united (a .position) (atomsOf (len / 5) content)) ≡ b
-  test-here = ap₂ inside (room-there v (a .position) rooms (fits .0) (fits .1)) (sym united-here) ∙ sym test
-
-  scan : settledClause (take v rooms) (atomsOf (len / 5) content) ≡ (b || settledBy (atomsFrom len (i + 5) content) (atomsOf (len / 5) content) (take v rooms))
+  -- an atom whose position has its room inside the union of its sets shows the clause settled
+  listed-settles : (some : List Atom) (a : Atom) → List·Memᴰ a some → T (inside (roomAt box (a .position)) (united (a .position) atoms)) → settledBy some atoms box ≡ true
   unfolding settledBy
-  scan =
-      left .decide ∙ ap (λ (bs : List Atom). settledBy bs (atomsOf (len / 5) content) (take v rooms)) (atoms-next (left .from) there here)
-      ∙ ap (λ (t : Bool). t || settledBy (atomsFrom len (i + 5) content) (atomsOf (len / 5) content) (take v rooms)) test-here
+  listed-settles [] a t h = absurd (List·Memᴰ·not-nil t)
+  listed-settles (c ∷ more) a t h =
+      ⊎-elim (λ e. any-holds (inside (roomAt box (c .position)) (united (c .position) atoms)) _ refl (test-true _ (subst (λ (d : Atom). T (inside (roomAt box (d .position)) (united (d .position) atoms))) e h)))
+      (λ u. or-true (inside (roomAt box (c .position)) (united (c .position) atoms)) (listed-settles more a u h))
+      (List·Memᴰ·cases-cons t)
+    where
+      or-true : (b : Bool) {later : Bool} → later ≡ true → (b || later) ≡ true
+      or-true true e = refl
+      or-true false e = e
 
-  -- it shows the clause settled
-  pub atom-settles : b ≡ true → settledClause (take v rooms) (atomsOf (len / 5) content) ≡ true
-  atom-settles e = any-holds b _ scan e
-
-  -- else the others are left
-  pub atoms-left-on : b ≡ false → AtomsLeft v len (i + 5) rooms content
-  atoms-left-on e = record { from = atoms-on-from (left .from) there here; decide = any-on b _ scan e }
+-- the union of one atom's sets is its set
+united-one : (a : Atom) → united (a .position) (a ∷ []) ≡ a .set
+unfolding united
+united-one a = united-here a [] (a .position) refl ∙ union-empty (a .set)
 
 -- an atom whose set has its position's room inside it shows the clause settled
 pub set-settles : {v len i : ℕ} {content : List ℕ} (rooms : List ℕ) (from : AtomsFrom v len i content) → i < len → {a : Atom} → a ≡ atomOf (drop i content) → {b : Bool}
     → b ≡ inside (getD rooms (a .position - 1) 0) (a .set) → b ≡ true → settledClause (take v rooms) (atomsOf (len / 5) content) ≡ true
 unfolding settledClause
 set-settles {v} {len} {i} {content} rooms from there {a} here test e =
-    listed-settles (take v rooms) (atomsOf (len / 5) content) (atomsOf (len / 5) content) (λ c t. t) a (atom-listed from there here)
-    (true-test (inside (roomAt (take v rooms) (a .position)) (a .set)) (ap (λ (room : ℕ). inside room (a .set)) (room-there v (a .position) rooms (fits .0) (fits .1)) ∙ sym test ∙ e))
+    listed-settles box atoms atoms a listed
+    (wider box atoms (a .position) (a ∷ []) (λ c t. subst (λ (d : Atom). List·Memᴰ d atoms) (sym (List·Memᴰ·eq-of-singleton t)) listed)
+    (true-test _ (ap₂ inside (room-there v (a .position) rooms (fits .0) (fits .1)) (united-one a) ∙ sym test ∙ e)))
   where
+    box : List ℕ
+    box = take v rooms
+
+    atoms : List Atom
+    atoms = atomsOf (len / 5) content
+
     fits : (1 ≤ a .position) × (a .position ≤ v)
     fits = atom-fits from there here
+
+    listed : List·Memᴰ a atoms
+    listed = atom-listed from there here
+
+-- ---- the atoms of a clause, from the last to the first
+
+-- With an atom more in front, whose position's room does not lie inside its union, none of the others becomes one that shows the clause settled.
+still-open : (box : List ℕ) (a : Atom) (behind some : List Atom) → inside (roomAt box (a .position)) (united (a .position) (a ∷ behind)) ≡ false → settledBy some behind box ≡ false
+    → settledBy some (a ∷ behind) box ≡ false
+unfolding settledBy
+still-open box a behind [] e f = refl
+still-open box a behind (c ∷ more) e f = both (one (ℕ-discrete (a .position) (c .position))) (still-open box a behind more e (right here others f))
+  where
+    left : (x y : Bool) → (x || y) ≡ false → x ≡ false
+    left true y g = g
+    left false y g = refl
+
+    right : (x y : Bool) → (x || y) ≡ false → y ≡ false
+    right true y g = absurd (let z : _≡_ {A = ℕ} 0 1 = cc in omega arith)
+    right false y g = g
+
+    here : Bool
+    here = inside (roomAt box (c .position)) (united (c .position) behind)
+
+    others : Bool
+    others = settledBy more behind box
+
+    both : {x y : Bool} → x ≡ false → y ≡ false → (x || y) ≡ false
+    both {x} {y} g h = ap₂ (λ (k l : Bool). k || l) g h
+
+    one : Dec (a .position ≡ c .position) → inside (roomAt box (c .position)) (united (c .position) (a ∷ behind)) ≡ false
+    one (yes same) = subst (λ (p : ℕ). inside (roomAt box p) (united p (a ∷ behind)) ≡ false) same e
+    one (no other) = ap (inside (roomAt box (c .position))) (united-elsewhere a behind (c .position) other) ∙ left here others f
+
+-- The sets of the atoms from a place on are united, these are atoms of the clause, and they do not show it settled.
+pub record Behind (v len left : ℕ) (rooms content sets : List ℕ) : Type 0 where
+  pub within : left ≤ len / 5
+  pub known : sets ≡ unitedSets (atomsBehind (len / 5) left content)
+  pub among : (c : Atom) → List·Memᴰ c (atomsBehind (len / 5) left content) → List·Memᴰ c (atomsOf (len / 5) content)
+  pub unsettled : settledBy (atomsBehind (len / 5) left content) (atomsBehind (len / 5) left content) (take v rooms) ≡ false
+
+-- behind the last atom there is none
+pub behind-starts : (v len : ℕ) (rooms content : List ℕ) → Behind v len (len / 5) rooms content (replicate 64 0)
+unfolding settledBy
+behind-starts v len rooms content = record {
+  within = omega arith;
+  known = sym (ap unitedSets none ∙ united-sets-none);
+  among = λ c t. absurd (List·Memᴰ·not-nil (subst (λ (bs : List Atom). List·Memᴰ c bs) none t));
+  unsettled = ap (λ (bs : List Atom). settledBy bs bs (take v rooms)) none;
+}
+  where
+    none : atomsBehind (len / 5) (len / 5) content ≡ []
+    none = behind-none (len / 5) content
+
+-- where all are passed the clause is not settled
+pub behind-ends : {v len left : ℕ} {rooms content sets : List ℕ} → Behind v len left rooms content sets → left ≤ 0 → settledClause (take v rooms) (atomsOf (len / 5) content) ≡ false
+unfolding settledClause
+behind-ends {v} {len} {left} {rooms} {content} behind h =
+    ap (λ (bs : List Atom). settledBy bs bs (take v rooms)) (sym (behind-all (len / 5) left content h)) ∙ behind .unsettled
+
+-- the atom before a place is on a position from 1 to v
+pub before-fits : {v len left : ℕ} {content : List ℕ} → Atoms v len content → 0 < left → left ≤ len / 5 → {a : Atom} → a ≡ atomOf (drop ((left - 1) * 5) content)
+    → (1 ≤ a .position) × (a .position ≤ v) × (v ≤ 64)
+before-fits {v} {len} {left} {content} atoms more within e =
+    let fit = subst (λ (b : Atom). (1 ≤ b .position) × (b .position ≤ v)) (sym e) (atom-here (λ b. (1 ≤ b .position) × (b .position ≤ v)) (len / 5) (left - 1) content (omega arith) (atoms .fit)) in
+    (fit .0, fit .1, atoms .few)
+
+module _ {v len left : ℕ} {rooms content sets : List ℕ} (atoms : Atoms v len content) (behind : Behind v len left rooms content sets) (more : 0 < left)
+    {a : Atom} (here : a ≡ atomOf (drop ((left - 1) * 5) content)) {whole : ℕ} (unites : whole ≡ union (a .set) (getD sets (a .position - 1) 0))
+    {b : Bool} (test : b ≡ inside (getD rooms (a .position - 1) 0) whole) where
+  abbrev box : List ℕ
+  box = take v rooms
+
+  abbrev later : List Atom
+  later = atomsBehind (len / 5) left content
+
+  fits : (1 ≤ a .position) × (a .position ≤ v) × (v ≤ 64)
+  fits = before-fits atoms more (behind .within) here
+
+  next : atomsBehind (len / 5) (left - 1) content ≡ a ∷ later
+  next = atoms-before (len / 5) left content more (behind .within) ∙ ap (λ (c : Atom). c ∷ later) (sym here)
+
+  -- what is united for its position is the union of its sets from here on
+  whole-here : whole ≡ united (a .position) (a ∷ later)
+  whole-here =
+      unites
+      ∙ ap (union (a .set)) (ap (λ (l : List ℕ). getD l (a .position - 1) 0) (behind .known) ∙ united-sets-at later (a .position - 1) (omega (arith, fits)) ∙ ap (λ (p : ℕ). united p later) back)
+      ∙ sym (united-here a later (a .position) refl)
+    where
+      back : a .position - 1 + 1 ≡ a .position
+      back = omega (arith, fits)
+
+  test-here : inside (roomAt box (a .position)) (united (a .position) (a ∷ later)) ≡ b
+  test-here = ap₂ inside (room-there v (a .position) rooms (fits .0) (fits .1)) (sym whole-here) ∙ sym test
+
+  listed-here : List·Memᴰ a (atomsOf (len / 5) content)
+  listed-here =
+      subst (λ (c : Atom). List·Memᴰ c all) (sym here)
+      (atom-here (λ c. List·Memᴰ c all) (len / 5) (left - 1) content (omega (arith, behind .within)) (every-of-listed (λ c. List·Memᴰ c all) all (λ c t. t)))
+    where
+      all : List Atom
+      all = atomsOf (len / 5) content
+
+  among-here : (c : Atom) → List·Memᴰ c (a ∷ later) → List·Memᴰ c (atomsOf (len / 5) content)
+  among-here c t = ⊎-elim (λ e. subst (λ (d : Atom). List·Memᴰ d (atomsOf (len / 5) content)) (sym e) listed-here) (λ u. behind .among c u) (List·Memᴰ·cases-cons t)
+
+  -- its room lies inside: the clause is settled
+  pub behind-settles : b ≡ true → settledClause (take v rooms) (atomsOf (len / 5) content) ≡ true
+  unfolding settledClause
+  behind-settles e =
+      listed-settles box (atomsOf (len / 5) content) (atomsOf (len / 5) content) a listed-here
+      (wider box (atomsOf (len / 5) content) (a .position) (a ∷ later) among-here (true-test _ (test-here ∙ e)))
+
+  -- else it is passed too
+  pub behind-on : b ≡ false → Behind v len (left - 1) rooms content (set sets (a .position - 1) whole)
+  unfolding settledBy
+  behind-on e = record {
+    within = omega (arith, behind .within);
+    known =
+        ap₂ (λ (l : List ℕ) (m : ℕ). set l (a .position - 1) m) (behind .known) (unites ∙ ap (λ (l : List ℕ). union (a .set) (getD l (a .position - 1) 0)) (behind .known))
+        ∙ sym (united-sets-more a later (fits .0) (omega (arith, fits))) ∙ ap unitedSets (sym next);
+    among = λ c t. among-here c (subst (λ (bs : List Atom). List·Memᴰ c bs) next t);
+    unsettled =
+        ap (λ (bs : List Atom). settledBy bs bs box) next
+        ∙ ap₂ (λ (k l : Bool). k || l) (test-here ∙ e) (still-open box a later later (test-here ∙ e) (behind .unsettled));
+  }
 
 -- ---- the fields of a sound file
 

@@ -20,7 +20,7 @@ use Rattle.steps.proofs.InTurn.{Keeps, dead-not-alive, in-turn-keeps, in-turn-i
 use Rattle.steps.proofs.RuleLaws.{rule-in-turn, rule-inside, rule-place}
 use Rattle.steps.proofs.ShrinkLaws.{lookField, round-in-turn, shrink-enough}
 use Rattle.boxes.specs.declared.shrink.Verdict.the-variants.{Alive, Dead}
-use Rattle.boxes.specs.United.{Looked}
+use Rattle.boxes.specs.Looks.{Looked}
 use Rattle.boxes.specs.Rooms.{fileOf, fieldsIn, SoundInput, Rounded, shrunkRooms}
 use Rattle.boxes.proofs.InputLaws.{sound-rest, field-there}
 

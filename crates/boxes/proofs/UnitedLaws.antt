@@ -1,4 +1,4 @@
--- Laws of the list of united sets: its elements, and how it grows by an atom. Assumes nothing.
+-- The list of the united sets of a clause, its elements, and how it grows by an atom in front. Assumes nothing.
 use mathlib.Core.Path.{_≡_, refl, sym, ap, ap₂, _∙_, subst}
 use mathlib.Core.List.{List, [], _∷_}
 use Prim.Native.Nat.{ℕ, zero, suc, _+_, _-_, _*_, _≤_, _<_}
@@ -13,7 +13,15 @@ use Rattle.rules.specs.declared.field.Atom.{Atom}
 use Rattle.rules.specs.Lists.{Every}
 use Rattle.rules.specs.Reading.{atomOf, atomsOf}
 use Rattle.steps.specs.Shrinking.{uniteIf, united}
-use Rattle.boxes.specs.United.{unitedFrom, unitedSets, AtomsFit}
+
+-- the united sets of k positions from p on
+unfoldable pub unitedFrom : ℕ → ℕ → List Atom → List ℕ
+unitedFrom p zero atoms = []
+unitedFrom p (suc k) atoms = united p atoms ∷ unitedFrom (suc p) k atoms
+
+-- the list of the united sets of positions 1 to 64 in a clause
+unfoldable pub unitedSets : List Atom → List ℕ
+unitedSets atoms = unitedFrom 1 64 atoms
 
 -- ---- the list by its elements
 
@@ -56,12 +64,12 @@ united-sets-none = united-from-none 1 64
 
 module _ (a : Atom) (more : List Atom) where
   -- an atom adds its set to the union of its position
-  united-here : (p : ℕ) → a .position ≡ p → united p (a ∷ more) ≡ union (a .set) (united p more)
+  pub united-here : (p : ℕ) → a .position ≡ p → united p (a ∷ more) ≡ union (a .set) (united p more)
   unfolding united uniteIf
   united-here p e = rw (eq-eqb (a .position) p e)
 
   -- an atom adds nothing to the union of another position
-  united-elsewhere : (p : ℕ) → (a .position ≡ p → ⊥) → united p (a ∷ more) ≡ united p more
+  pub united-elsewhere : (p : ℕ) → (a .position ≡ p → ⊥) → united p (a ∷ more) ≡ united p more
   unfolding united uniteIf
   united-elsewhere p ne = rw (ne-eqb (a .position) p ne)
 
@@ -102,15 +110,13 @@ atom-here P (suc count) (suc k) content h every =
     subst (λ (bytes : List ℕ). P (atomOf bytes)) (drop-drop (k * 5) 5 content ∙ ap (λ (at : ℕ). drop at content) e)
     (atom-here P count k (drop 5 content) (omega arith) (every .1))
 
--- where the atoms fit, the one at a place names a position from 1 to 64
-pub atom-fits : (count k : ℕ) (content : List ℕ) (a : Atom) → k < count → a ≡ atomOf (drop (k * 5) content) → AtomsFit 64 (atomsOf count content)
-    → (1 ≤ a .position) × (a .position ≤ 64)
-atom-fits count k content a h e fit =
-    subst (λ (b : Atom). (1 ≤ b .position) × (b .position ≤ 64)) (sym e) (atom-here (λ b. (1 ≤ b .position) × (b .position ≤ 64)) count k content h fit)
+-- the atoms from a place on, of so many
+abbrev pub atomsBehind : ℕ → ℕ → List ℕ → List Atom
+atomsBehind count left content = atomsOf (count - left) (drop (left * 5) content)
 
 module _ (count left : ℕ) (content : List ℕ) where
   -- the atom before a place stands in front of those from there on
-  atoms-before : 0 < left → left ≤ count
+  pub atoms-before : 0 < left → left ≤ count
       → atomsOf (count - (left - 1)) (drop ((left - 1) * 5) content) ≡ atomOf (drop ((left - 1) * 5) content) ∷ atomsOf (count - left) (drop (left * 5) content)
   unfolding atomsOf
   atoms-before h l =
@@ -124,27 +130,14 @@ module _ (count left : ℕ) (content : List ℕ) where
       next : (left - 1) * 5 + 5 ≡ left * 5
       next = omega arith
 
-  -- the list of the atoms from a place on, with the atom before it united, is the list of one atom more
-  pub united-before : (old new : List ℕ) (a : Atom) → 0 < left → left ≤ count → AtomsFit 64 (atomsOf count content)
-      → old ≡ unitedSets (atomsOf (count - left) (drop (left * 5) content)) → a ≡ atomOf (drop ((left - 1) * 5) content)
-      → new ≡ set old (a .position - 1) (union (a .set) (getD old (a .position - 1) 0))
-      → new ≡ unitedSets (atomsOf (count - (left - 1)) (drop ((left - 1) * 5) content))
-  united-before old new a h l fit e at en =
-      let fits = atom-fits count (left - 1) content a (omega arith) at fit in
-      en ∙ ap (λ (sets : List ℕ). set sets (a .position - 1) (union (a .set) (getD sets (a .position - 1) 0))) e
-      ∙ sym (united-sets-more a behind (fits .0) (fits .1)) ∙ ap unitedSets (ap (λ (b : Atom). b ∷ behind) at ∙ sym (atoms-before h l))
-    where
-      behind : List Atom
-      behind = atomsOf (count - left) (drop (left * 5) content)
-
   -- from the first place on there are all
-  pub united-all : left ≤ 0 → unitedSets (atomsOf (count - left) (drop (left * 5) content)) ≡ unitedSets (atomsOf count content)
-  united-all h =
+  pub behind-all : left ≤ 0 → atomsBehind count left content ≡ atomsOf count content
+  behind-all h =
       let all : count - left ≡ count = omega arith in
       let start : left * 5 ≡ 0 = omega arith in
-      ap₂ (λ (k at : ℕ). unitedSets (atomsOf k (drop at content))) all start
+      ap₂ (λ (k at : ℕ). atomsOf k (drop at content)) all start
 
 -- behind the last atom there is none
-pub united-end : (count : ℕ) (bytes : List ℕ) → replicate 64 0 ≡ unitedSets (atomsOf (count - count) bytes)
+pub behind-none : (count : ℕ) (content : List ℕ) → atomsBehind count count content ≡ []
 unfolding atomsOf
-united-end count bytes = let none : 0 ≡ count - count = omega arith in sym united-sets-none ∙ ap (λ (k : ℕ). unitedSets (atomsOf k bytes)) none
+behind-none count content = let none : count - count ≡ 0 = omega arith in ap (λ (k : ℕ). atomsOf k (drop (count * 5) content)) none

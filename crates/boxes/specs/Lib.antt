@@ -1,3 +1,3 @@
+pub mod Looks
 pub mod Rooms
 pub mod Scans
-pub mod United

@@ -5,7 +5,7 @@ ghost use Prim.Native.Nat.{ℕ, _/_};
 ghost use lib.ListN.{take, drop};
 ghost use Rattle.rules.specs.Reading.{atomsOf};
 ghost use Rattle.steps.specs.Shrinking.{lookClause, alive};
-ghost use Rattle.boxes.specs.United.{Atoms, Looked};
+ghost use Rattle.boxes.specs.Looks.{Atoms, Looked};
 ghost use Rattle.boxes.specs.Scans.{FirstMet, cutTo};
 use rules::field::atom_at;
 use sets::Room;

@@ -1,6 +1,6 @@
 // Looking at a set equality, as the clauses that it means: for each named position "it is in M",
 // then for each value of M, rising, "one of the named positions is in it". The contracts cite
-// specs/United.antt and the search of `steps`.
+// specs/Looks.antt and the search of `steps`.
 ghost use mathlib.Core.List.{_∷_, [], map};
 ghost use Prim.Native.Nat.{ℕ, _-_, _≤_, _<_};
 ghost use lib.ListN.{length, take, drop};
@@ -9,7 +9,7 @@ ghost use Rattle.rules.specs.Clauses.{atomIn};
 ghost use Rattle.rules.specs.Reading.{ruleOf};
 ghost use Rattle.rules.specs.declared.field.Tag.the-variants.{Equality};
 ghost use Rattle.steps.specs.Shrinking.{lookClauses, lookRule};
-ghost use Rattle.boxes.specs.United.{PositionsFit, Looked};
+ghost use Rattle.boxes.specs.Looks.{PositionsFit, Looked};
 use rules::field::set_at;
 use sets::Room;
 

@@ -8,4 +8,3 @@ pub mod clause;
 pub mod equality;
 pub mod settle;
 pub mod shrink;
-pub mod united;

@@ -9,9 +9,8 @@ ghost use Rattle.rules.specs.Clauses.{atomIn};
 ghost use Rattle.rules.specs.Reading.{ruleOf, atomsOf};
 ghost use Rattle.rules.specs.declared.field.Tag.the-variants.{Equality};
 ghost use Rattle.steps.specs.Shrinking.{settledClause, settledClauses, settledRule, settled};
-ghost use Rattle.boxes.specs.United.{PositionsFit, Atoms};
+ghost use Rattle.boxes.specs.Looks.{PositionsFit, Atoms};
 ghost use Rattle.boxes.specs.Rooms.{SoundInput, fieldsIn, someRoom};
-use super::united::united_atoms;
 use rules::field::Tag;
 use rules::field::atom_at;
 use rules::field::head_at;
@@ -73,21 +72,24 @@ fn settled_equality(rooms: &[u32; 64], content: &[u8], len: usize, v: usize) -> 
     every_value_taken(rooms, positions, len - 4, mask, v)
 }
 
-// Whether the clause that a content of so many bytes is, is settled: by the list of its united sets.
+// Whether the clause that a content of so many bytes is, is settled: from the last atom to the first it
+// unites the sets of each position, and is left at the first room that lies inside what is united.
 fn settled_united(rooms: &[u32; 64], content: &[u8], len: usize, v: usize) -> bool
     requires { ⌜ Atoms v len (now content) ⌝ }
     ensures { λ r. ⌜ r ≡ settledClause (take v (now (rooms .entry))) (atomsOf (len / 5) (now (content .entry))) ⌝ }
 {
-    let united = united_atoms(content, len / 5);
-    let mut at = 0;
-    while at < len {
-        let atom = atom_at(content, at);
+    let mut united = [0u32; 64];
+    let mut left = len / 5;
+    while left > 0 {
+        left -= 1;
+        let atom = atom_at(content, left * 5);
         let p = atom.position as usize - 1;
+        let all = Room { mask: atom.set }.union(Room { mask: united[p] });
+        united[p] = all.mask;
         let room = Room { mask: rooms[p] };
-        if room.inside(Room { mask: united[p] }) {
+        if room.inside(all) {
             return true;
         }
-        at += 5;
     }
     false
 }

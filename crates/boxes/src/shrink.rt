@@ -6,7 +6,7 @@ ghost use lib.ListN.{length, take, drop};
 ghost use Rattle.rules.specs.Reading.{fieldFault, ruleAt};
 ghost use Rattle.steps.specs.Boxes.{Rooms};
 ghost use Rattle.steps.specs.Shrinking.{lookRule, round, sameRooms, shrunk};
-ghost use Rattle.boxes.specs.United.{Looked};
+ghost use Rattle.boxes.specs.Looks.{Looked};
 ghost use Rattle.boxes.specs.Rooms.{SoundInput, fieldsIn, Rounded, shrunkRooms};
 use super::clause::look_atoms;
 use super::equality::look_equality;

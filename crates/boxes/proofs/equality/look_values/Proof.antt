@@ -9,7 +9,7 @@ use Rattle.sets.specs.Sets.{single, values, smallest, others}
 use Rattle.sets.proofs.Smallest.{others-below, count-others}
 use Rattle.rules.specs.Clauses.{atomIn}
 use Rattle.steps.specs.Shrinking.{lookClauses}
-use Rattle.boxes.specs.United.{Looked}
+use Rattle.boxes.specs.Looks.{Looked}
 use Rattle.boxes.proofs.LooksInTurn.{LeftToLook, left-all, left-dead, left-then, left-none}
 use Rattle.boxes.proofs.EqualityLooks.{others-computed, next-value, no-value}
 use Rattle.boxes.proofs.equality.look_values.Statement.{statement}

@@ -10,7 +10,7 @@ use Rattle.rules.specs.declared.field.Tag.the-variants.{Equality}
 use Rattle.rules.specs.Reading.{ruleOf}
 use Rattle.rules.proofs.ByteLaws.{rest-part}
 use Rattle.steps.specs.Shrinking.{settledRule}
-use Rattle.boxes.specs.United.{PositionsFit}
+use Rattle.boxes.specs.Looks.{PositionsFit}
 use Rattle.boxes.proofs.SettleLaws.{all-fail, all-on, valuesSettled, equality-parts}
 use Rattle.boxes.proofs.settle.settled_equality.Statement.{statement}
 use Rattle.boxes.proofs.settle.settled_equality.Tie as tie

@@ -1,39 +1,43 @@
--- `boxes::settle::settled_united` meets its contract. The loop: whether one of the atoms from `at` on shows the clause settled decides; the measure is what is left of its bytes. Assumes nothing.
+-- `boxes::settle::settled_united` meets its contract. The loop: the sets of the atoms from `left` on are united, and these atoms do not show the clause settled; the measure is `left`. Assumes nothing.
 use mathlib.Core.Path.{sym}
-use Prim.Native.Nat.{_-_, _≤_}
+use Prim.Native.Nat.{_≤_}
 use native.Mathlib.Omega.{arith}
-use Rattle.boxes.proofs.AtomsInTurn.{atom-there, atom-fits}
-use Rattle.boxes.proofs.SettleLaws.{AtomsLeft, atoms-left-start, atoms-left-none, atom-settles, atoms-left-on, fits-64}
+use Rattle.boxes.proofs.SettleLaws.{Behind, behind-starts, behind-ends, before-fits, behind-settles, behind-on}
 use Rattle.boxes.proofs.settle.settled_united.Statement.{statement}
 use Rattle.boxes.proofs.settle.settled_united.Tie as tie
 
 abbrev Inv-loop : tie.InvT-loop
-Inv-loop rooms content len v united at₀ at = AtomsLeft v len at rooms content
+Inv-loop rooms content len v united₀ left₀ united left = Behind v len left rooms content united
 
 abbrev μ-loop : tie.MeasureT-loop
-μ-loop rooms content len v united at₀ at = len - at
+μ-loop rooms content len v united₀ left₀ united left = left
 
--- the turn's atom, from the test of its room
+-- the start, from a turn's atom
+abbrev start : tie.After-atom-at Inv-loop μ-loop → tie.Start Inv-loop μ-loop
+start t = t .before .before .before .before
+
+-- the atom of a turn is on one of at most 64 positions
+position : (t : tie.After-atom-at Inv-loop μ-loop) → (1 ≤ t .atom-at .result .position) × (t .atom-at .result .position ≤ start t .args .v) × (start t .args .v ≤ 64)
+position t = before-fits (start t .pre) (t .before .loop-test .taken) (t .before .before .loop .inv .within) (t .atom-at .ensures)
+
+-- the turn's union, from the test of its room, and its atom
+abbrev union : tie.After-inside Inv-loop μ-loop → tie.After-union Inv-loop μ-loop
+union c = c .before .before
+
 abbrev turn : tie.After-inside Inv-loop μ-loop → tie.After-atom-at Inv-loop μ-loop
-turn c = c .before .before .before
-
-few : (t : tie.After-atom-at Inv-loop μ-loop) → t .before .before .before .before .before .args .v ≤ 64
-few t = t .before .before .before .before .before .pre .few
-
--- the atom of a turn is on a position from 1 to v, one of at most 64
-position : (t : tie.After-atom-at Inv-loop μ-loop) → (1 ≤ t .atom-at .result .position) × (t .atom-at .result .position ≤ 64)
-position t =
-    let fit = atom-fits (t .before .before .loop .inv .from) (t .before .loop-test .taken) (t .atom-at .ensures) in
-    (fit .0, omega (arith, fit .1, few t))
-
-united-atoms-requires : tie.Need-united-atoms-requires Inv-loop μ-loop
-united-atoms-requires c κs = let atoms = c .before .pre in (omega (arith, atoms .whole, atoms .there), fits-64 atoms)
+turn c = union c .before .before
 
 loop-holds : tie.Need-loop-holds Inv-loop μ-loop
-loop-holds c = let start = c .before .before in atoms-left-start (start .args .rooms .now) (start .pre)
+loop-holds c = let a = c .before .args in behind-starts (a .v) (a .len) (a .rooms .now) (a .content .now)
+
+sub-left : tie.Need-sub-left Inv-loop μ-loop
+sub-left c = omega arith
+
+mul-atom-at : tie.Need-mul-atom-at Inv-loop μ-loop
+mul-atom-at c = omega (arith, c .before .loop .inv .within, c .before .before .before .pre .whole, c .before .before .before .pre .there)
 
 atom-at-requires : tie.Need-atom-at-requires Inv-loop μ-loop
-atom-at-requires c κs = omega (arith, atom-there (c .before .loop .inv .from) (c .loop-test .taken), c .before .before .before .before .pre .there)
+atom-at-requires c κs = omega (arith, c .before .loop .inv .within, c .loop-test .taken, c .before .before .before .pre .whole, c .before .before .before .pre .there)
 
 cast-p : tie.Need-cast-p Inv-loop μ-loop
 cast-p c = omega (arith, position (c .before))
@@ -41,17 +45,26 @@ cast-p c = omega (arith, position (c .before))
 sub-p : tie.Need-sub-p Inv-loop μ-loop
 sub-p c = position (c .before) .0
 
-mul-t13 : tie.Need-mul-t13 Inv-loop μ-loop
-mul-t13 c = omega (arith, position (c .before))
-
-element-copy-out-t16 : tie.Need-element-copy-out-t16 Inv-loop μ-loop
-element-copy-out-t16 c = omega (arith, position (c .before))
-
-mul-t13-2 : tie.Need-mul-t13-2 Inv-loop μ-loop
-mul-t13-2 c = omega (arith, position (c .before .before))
+mul-t12 : tie.Need-mul-t12 Inv-loop μ-loop
+mul-t12 c = omega (arith, position (c .before))
 
 array-read-t16 : tie.Need-array-read-t16 Inv-loop μ-loop
-array-read-t16 c = omega (arith, position (c .before .before))
+array-read-t16 c = omega (arith, position (c .before))
+
+union-requires : tie.Need-union-requires Inv-loop μ-loop
+union-requires c κs = tt
+
+mul-united : tie.Need-mul-united Inv-loop μ-loop
+mul-united c = omega (arith, position (c .before .before))
+
+array-write-united : tie.Need-array-write-united Inv-loop μ-loop
+array-write-united c = omega (arith, position (c .before .before))
+
+mul-t12-2 : tie.Need-mul-t12-2 Inv-loop μ-loop
+mul-t12-2 c = omega (arith, position (c .before .before))
+
+element-copy-out-t16 : tie.Need-element-copy-out-t16 Inv-loop μ-loop
+element-copy-out-t16 c = omega (arith, position (c .before .before))
 
 inside-requires : tie.Need-inside-requires Inv-loop μ-loop
 inside-requires c κs = tt
@@ -59,12 +72,7 @@ inside-requires c κs = tt
 returns : tie.Need-returns Inv-loop μ-loop
 returns c =
     let t = turn (c .before) in
-    sym (atom-settles (t .before .before .loop .inv) (t .before .loop-test .taken) (t .atom-at .ensures) (few t) (t .before .before .before .united-atoms .ensures) (c .before .inside .ensures .result) (c .if1 .taken))
-
-add-at : tie.Need-add-at Inv-loop μ-loop
-add-at c =
-    let t = turn (c .before) in
-    omega (arith, atom-there (t .before .before .loop .inv .from) (t .before .loop-test .taken), t .before .before .before .before .before .pre .there)
+    sym (behind-settles (start t .pre) (t .before .before .loop .inv) (t .before .loop-test .taken) (t .atom-at .ensures) (union (c .before) .union .ensures .result) (c .before .inside .ensures .result) (c .if1 .taken))
 
 loop-less : tie.Need-loop-less Inv-loop μ-loop
 loop-less c = omega arith
@@ -72,10 +80,10 @@ loop-less c = omega arith
 loop-again : tie.Need-loop-again Inv-loop μ-loop
 loop-again c =
     let t = turn (c .before) in
-    atoms-left-on (t .before .before .loop .inv) (t .before .loop-test .taken) (t .atom-at .ensures) (few t) (t .before .before .before .united-atoms .ensures) (c .before .inside .ensures .result) (c .if1 .left)
+    behind-on (start t .pre) (t .before .before .loop .inv) (t .before .loop-test .taken) (t .atom-at .ensures) (union (c .before) .union .ensures .result) (c .before .inside .ensures .result) (c .if1 .left)
 
 returns-2 : tie.Need-returns-2 Inv-loop μ-loop
-returns-2 c = sym (atoms-left-none (c .before .loop .inv) (c .loop-test .left))
+returns-2 c = sym (behind-ends (c .before .loop .inv) (c .loop-test .left))
 
 pub settled-united-spec : {M : Type 1} → statement M
 settled-united-spec =
@@ -83,18 +91,21 @@ settled-united-spec =
     (tie.spec
     Inv-loop
     μ-loop
-    united-atoms-requires
     loop-holds
+    sub-left
+    mul-atom-at
     atom-at-requires
     cast-p
     sub-p
-    mul-t13
-    element-copy-out-t16
-    mul-t13-2
+    mul-t12
     array-read-t16
+    union-requires
+    mul-united
+    array-write-united
+    mul-t12-2
+    element-copy-out-t16
     inside-requires
     returns
-    add-at
     loop-less
     loop-again
     returns-2)

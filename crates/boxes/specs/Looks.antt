@@ -1,22 +1,13 @@
--- What the functions of `src/clause.rt` and `src/equality.rt` are given and what they leave: atoms and positions that fit, the list of united sets, and what a look leaves. Assumes nothing.
-use Prim.Native.Nat.{ℕ, zero, suc, _*_, _/_, _≤_}
+-- What the looks are given and what they leave: atoms and positions that fit, and the rooms after a look. Assumes nothing.
+use Prim.Native.Nat.{ℕ, _*_, _/_, _≤_}
 use mathlib.Core.Path.{_≡_}
 use mathlib.Core.Bool.{Bool, true, false}
-use mathlib.Core.List.{List, [], _∷_, _++_}
+use mathlib.Core.List.{List, _++_}
 use lib.ListN.{length}
 use Rattle.rules.specs.declared.field.Atom.{Atom}
 use Rattle.rules.specs.Lists.{Every}
 use Rattle.rules.specs.Reading.{atomsOf}
-use Rattle.steps.specs.Shrinking.{Look, dead, alive, united}
-
--- the united sets of k positions from p on
-unfoldable pub unitedFrom : ℕ → ℕ → List Atom → List ℕ
-unitedFrom p zero atoms = []
-unitedFrom p (suc k) atoms = united p atoms ∷ unitedFrom (suc p) k atoms
-
--- the list of the united sets of positions 1 to 64 in a clause
-unfoldable pub unitedSets : List Atom → List ℕ
-unitedSets atoms = unitedFrom 1 64 atoms
+use Rattle.steps.specs.Shrinking.{Look, dead, alive}
 
 -- every atom names a position from 1 to v
 abbrev pub AtomsFit : ℕ → List Atom → Type 0
