@@ -1,6 +1,6 @@
 -- `boxes::settle::settled_united` meets its contract. The loop: the sets of the atoms from `left` on are united, and these atoms do not show the clause settled; the measure is `left`. Assumes nothing.
 use mathlib.Core.Path.{sym}
-use Prim.Native.Nat.{_≤_}
+use Prim.Native.Nat.{_≤_, _<_}
 use native.Mathlib.Omega.{arith}
 use Rattle.boxes.proofs.SettleLaws.{Behind, behind-starts, behind-ends, before-fits, behind-settles, behind-on}
 use Rattle.boxes.proofs.settle.settled_united.Statement.{statement}
@@ -16,9 +16,13 @@ abbrev μ-loop : tie.MeasureT-loop
 abbrev start : tie.After-atom-at Inv-loop μ-loop → tie.Start Inv-loop μ-loop
 start t = t .before .before .before .before
 
+-- one is left
+more : (t : tie.After-atom-at Inv-loop μ-loop) → 0 < t .before .before .loop .left
+more t = omega arith
+
 -- the atom of a turn is on one of at most 64 positions
 position : (t : tie.After-atom-at Inv-loop μ-loop) → (1 ≤ t .atom-at .result .position) × (t .atom-at .result .position ≤ start t .args .v) × (start t .args .v ≤ 64)
-position t = before-fits (start t .pre) (t .before .loop-test .taken) (t .before .before .loop .inv .within) (t .atom-at .ensures)
+position t = before-fits (start t .pre) (more t) (t .before .before .loop .inv .within) (t .atom-at .ensures)
 
 -- the turn's union, from the test of its room, and its atom
 abbrev union : tie.After-inside Inv-loop μ-loop → tie.After-union Inv-loop μ-loop
@@ -72,7 +76,7 @@ inside-requires c κs = tt
 returns : tie.Need-returns Inv-loop μ-loop
 returns c =
     let t = turn (c .before) in
-    sym (behind-settles (start t .pre) (t .before .before .loop .inv) (t .before .loop-test .taken) (t .atom-at .ensures) (union (c .before) .union .ensures .result) (c .before .inside .ensures .result) (c .if1 .taken))
+    sym (behind-settles (start t .pre) (t .before .before .loop .inv) (more t) (t .atom-at .ensures) (union (c .before) .union .ensures .result) (c .before .inside .ensures .result) (c .if1 .taken))
 
 loop-less : tie.Need-loop-less Inv-loop μ-loop
 loop-less c = omega arith
@@ -80,7 +84,7 @@ loop-less c = omega arith
 loop-again : tie.Need-loop-again Inv-loop μ-loop
 loop-again c =
     let t = turn (c .before) in
-    behind-on (start t .pre) (t .before .before .loop .inv) (t .before .loop-test .taken) (t .atom-at .ensures) (union (c .before) .union .ensures .result) (c .before .inside .ensures .result) (c .if1 .left)
+    behind-on (start t .pre) (t .before .before .loop .inv) (more t) (t .atom-at .ensures) (union (c .before) .union .ensures .result) (c .before .inside .ensures .result) (c .if1 .left)
 
 returns-2 : tie.Need-returns-2 Inv-loop μ-loop
 returns-2 c = sym (behind-ends (c .before .loop .inv) (c .loop-test .left))
