@@ -1,5 +1,5 @@
 -- Laws of a look at one field of a sound file: what its rule asks of the bytes behind its head, and that a look by those bytes is a look at the rule. Assumes nothing.
-use mathlib.Core.Path.{_≡_, refl, sym, ap, _∙_, subst}
+use mathlib.Core.Path.{_≡_, sym, ap, _∙_, subst}
 use mathlib.Core.Bool.{Bool}
 use mathlib.Core.List.{List}
 use Prim.Native.Nat.{ℕ, _+_, _-_, _*_, _/_, _≤_, _<_}
@@ -13,20 +13,17 @@ use Rattle.rules.specs.Rules.{Rule, clause}
 use Rattle.rules.specs.Clauses.{clausesOf}
 use Rattle.rules.specs.Reading.{headOf, atomsOf, ruleOf, ruleAt, fieldFault}
 use Rattle.rules.proofs.ByteLaws.{rest-part}
-use Rattle.steps.specs.Shrinking.{Look, dead, alive, ifAlive, lookClause, lookClauses, lookRule}
+use Rattle.steps.specs.Shrinking.{Look, lookClause, lookRule}
 use Rattle.boxes.specs.Looks.{AtomsFit, Atoms, PositionsFit, Looked}
+use Rattle.boxes.proofs.LooksInTurn.{look-one}
 use Rattle.boxes.proofs.InputLaws.{field-there, rule-here, no-header-here, no-unknown-here, clause-here, equality-here}
 
 -- ---- a look at a rule that is a clause
 
-once : (l : Look) → ifAlive l (λ p. dead p) (λ box. alive box) ≡ l
-once (dead p) = refl
-once (alive box) = refl
-
 -- a look at a clause as a rule is a look at the clause
 rule-clause : (place : ℕ) (atoms : List Atom) (box : List ℕ) → lookRule place (clause atoms) box ≡ lookClause place atoms box
-unfolding lookRule clausesOf lookClauses
-rule-clause place atoms box = once (lookClause place atoms box)
+unfolding lookRule clausesOf
+rule-clause place atoms box = look-one place atoms box
 
 -- ---- the field at a place, by its head and the bytes behind it
 

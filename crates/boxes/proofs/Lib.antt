@@ -5,7 +5,10 @@ pub mod InputLaws
 pub mod LooksInTurn
 pub mod RoomLists
 pub mod ScanLaws
-pub mod SettleLaws
+pub mod SettledClauses
+pub mod SettledEqualities
+pub mod SettledFields
 pub mod ShrinkRounds
+pub mod TestsInARow
 pub mod Unique
 pub mod UnitedLaws

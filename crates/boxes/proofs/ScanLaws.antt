@@ -244,10 +244,13 @@ module _ {all left : List Atom} {box : List ℕ} {live kept : ℕ} (scanned : Sc
 
 -- ---- at the first v rooms of an array
 
--- what the room of a position from 1 to v shares with a set
-pub meets-front : (v p m : ℕ) (rooms : List ℕ) → 1 ≤ p → p ≤ v → common (getD rooms (p - 1) 0) m ≡ common (roomAt (take v rooms) p) m
+-- the room of a position from 1 to v, and what it shares with a set
+pub room-there : (v p : ℕ) (rooms : List ℕ) → 1 ≤ p → p ≤ v → roomAt (take v rooms) p ≡ getD rooms (p - 1) 0
 unfolding roomAt
-meets-front v p m rooms low high = ap (λ (room : ℕ). common room m) (sym (getD-take v rooms (p - 1) 0 (omega arith)))
+room-there v p rooms low high = getD-take v rooms (p - 1) 0 (omega arith)
+
+pub meets-front : (v p m : ℕ) (rooms : List ℕ) → 1 ≤ p → p ≤ v → common (getD rooms (p - 1) 0) m ≡ common (roomAt (take v rooms) p) m
+meets-front v p m rooms low high = ap (λ (room : ℕ). common room m) (sym (room-there v p rooms low high))
 
 module _ (v : ℕ) (rooms : List ℕ) (l : Look) where
   -- a dead look

@@ -12,10 +12,10 @@ use sets::Room;
 
 // What the scan for the first live position has met: the index of that position, what its room shares
 // with the set that shows it, and the place of the next atom. Nothing is kept where none is live.
-pub struct Met {
-    pub next: usize,
-    pub live: usize,
-    pub kept: u32,
+struct Met {
+    next: usize,
+    live: usize,
+    kept: u32,
 }
 
 // Scans the atoms of a content of so many bytes for the first whose set its position's room meets.

@@ -5,9 +5,11 @@ use Prim.Native.Nat.{ℕ, _^_, _<_}
 use native.Mathlib.Omega.{arith}
 use lib.ListN.{take}
 use borrow.Author.Tests.{not-true, not-false}
-use Rattle.sets.specs.Sets.{single, common, complement, smallest, others, beside}
+use Rattle.sets.specs.Sets.{single, common, complement, smallest, others}
 use Rattle.sets.proofs.Smallest.{others-below, count-others}
-use Rattle.boxes.proofs.SettleLaws.{all-fail, all-on, valuesSettled, values-settled-none, values-settled-on}
+use Rattle.boxes.proofs.EqualityLooks.{others-computed}
+use Rattle.boxes.proofs.SettledEqualities.{valuesSettled, values-settled-none, values-settled-on}
+use Rattle.boxes.proofs.TestsInARow.{all-fail, all-on}
 use Rattle.boxes.proofs.settle.every_value_taken.Statement.{statement}
 use Rattle.boxes.proofs.settle.every_value_taken.Tie as tie
 
@@ -35,10 +37,7 @@ scanned c =
 
 -- what is left are the other values
 rest : (c : tie.After-common Inv-loop μ-loop) → c .common .result .mask ≡ others (c .before .before .before .before .before .before .before .loop .left)
-unfolding others beside
-rest c =
-    let left = c .before .before .before .before .before .before .before .loop .left in
-    c .common .ensures .result ∙ ap (common left) (c .before .complement .ensures .result ∙ ap (complement 32) (one (c .before .before .before .before)))
+rest c = others-computed _ _ _ _ (one (c .before .before .before .before)) (c .before .complement .ensures .result) (c .common .ensures .result)
 
 loop-holds : tie.Need-loop-holds Inv-loop μ-loop
 loop-holds c = (omega arith, refl)

@@ -12,7 +12,8 @@ use Rattle.rules.specs.declared.field.Tag.the-variants.{Clause}
 use Rattle.rules.proofs.ByteLaws.{rest-part}
 use Rattle.boxes.specs.Scans.{AtomsFrom}
 use Rattle.boxes.proofs.AtomsInTurn.{atoms-start, atom-there, atom-fits, atoms-on-from}
-use Rattle.boxes.proofs.SettleLaws.{set-settles, FieldsLeft, fields-left-start, fields-left-none, FieldHere, head-there, field-here, field-fails, fields-left-on, equality-rule, clause-rule}
+use Rattle.boxes.proofs.SettledClauses.{set-settles}
+use Rattle.boxes.proofs.SettledFields.{FieldsLeft, fields-left-start, fields-left-none, FieldHere, head-there, field-here, field-fails, fields-left-on, equality-rule, clause-rule}
 use Rattle.boxes.proofs.settle.settled.Statement.{statement}
 use Rattle.boxes.proofs.settle.settled.Tie as tie
 

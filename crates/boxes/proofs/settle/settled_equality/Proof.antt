@@ -1,25 +1,18 @@
 -- `boxes::settle::settled_equality` meets its contract: every named position inside the set, and every value's clause settled. Assumes nothing.
-use mathlib.Core.Path.{_≡_, sym, ap, _∙_, subst}
+use mathlib.Core.Path.{_≡_, sym, ap, _∙_}
 use mathlib.Core.Bool.{not, _&&_}
-use mathlib.Core.List.{List}
-use Prim.Native.Nat.{ℕ, _-_, _≤_}
-use native.Mathlib.Omega.{arith}
-use lib.ListN.{length, take, drop, length-drop}
+use Prim.Native.Nat.{_-_}
+use lib.ListN.{length, take, drop}
 use borrow.Author.Needs.{needs}
 use Rattle.rules.specs.declared.field.Tag.the-variants.{Equality}
 use Rattle.rules.specs.Reading.{ruleOf}
 use Rattle.rules.proofs.ByteLaws.{rest-part}
 use Rattle.steps.specs.Shrinking.{settledRule}
-use Rattle.boxes.specs.Looks.{PositionsFit}
-use Rattle.boxes.proofs.SettleLaws.{all-fail, all-on, valuesSettled, equality-parts}
+use Rattle.boxes.proofs.EqualityLooks.{positions-part}
+use Rattle.boxes.proofs.SettledEqualities.{valuesSettled, equality-parts}
+use Rattle.boxes.proofs.TestsInARow.{all-fail, all-on}
 use Rattle.boxes.proofs.settle.settled_equality.Statement.{statement}
 use Rattle.boxes.proofs.settle.settled_equality.Tie as tie
-
--- the part behind the set is what the contract speaks of
-part-fits : (len v : ℕ) (content : List ℕ) → 4 ≤ len → len ≤ length content → v ≤ 64 → PositionsFit v (take (len - 4) (drop 4 content))
-    → (len - 4 ≤ length (take (length content - 4) (drop 4 content))) × (v ≤ 64) × PositionsFit v (take (len - 4) (take (length content - 4) (drop 4 content)))
-part-fits len v content h l k fit =
-    subst (λ (bytes : List ℕ). (len - 4 ≤ length bytes) × (v ≤ 64) × PositionsFit v (take (len - 4) bytes)) (sym (rest-part 4 content)) (omega (arith, length-drop 4 content), k, fit)
 
 -- the equality is settled: the positions' test, and the values'
 parts : (c : tie.After-some-room)
@@ -50,7 +43,7 @@ sub-some-room c = search needs
 some-room-requires : tie.Need-some-room-requires
 some-room-requires c κs =
     let start = c .before .before .before in
-    part-fits (start .args .len) (start .args .v) (start .args .content .now) (start .pre .0) (start .pre .1) (start .pre .2) (start .pre .3)
+    positions-part (start .args .len) (start .args .v) (start .args .content .now) (start .pre .1) (start .pre .2) (start .pre .3)
 
 returns : tie.Need-returns
 returns c = sym (all-fail _ _ (parts (c .before)) (ap not (c .if1 .taken)))
@@ -61,7 +54,7 @@ sub-every-value-taken c = search needs
 every-value-taken-requires : tie.Need-every-value-taken-requires
 every-value-taken-requires c κs =
     let start = c .before .before .before .before .before in
-    part-fits (start .args .len) (start .args .v) (start .args .content .now) (start .pre .0) (start .pre .1) (start .pre .2) (start .pre .3)
+    positions-part (start .args .len) (start .args .v) (start .args .content .now) (start .pre .1) (start .pre .2) (start .pre .3)
 
 returns-2 : tie.Need-returns-2
 returns-2 c = c .every-value-taken .ensures ∙ sym (all-on _ _ (parts (c .before .before)) (ap not (c .before .if1 .left)))

@@ -2,7 +2,7 @@
 use mathlib.Core.Path.{sym}
 use Prim.Native.Nat.{_≤_, _<_}
 use native.Mathlib.Omega.{arith}
-use Rattle.boxes.proofs.SettleLaws.{Behind, behind-starts, behind-ends, before-fits, behind-settles, behind-on}
+use Rattle.boxes.proofs.SettledClauses.{Behind, behind-starts, behind-ends, before-fits, behind-settles, behind-on}
 use Rattle.boxes.proofs.settle.settled_united.Statement.{statement}
 use Rattle.boxes.proofs.settle.settled_united.Tie as tie
 

@@ -5,7 +5,9 @@ use Prim.Native.Nat.{ℕ, _+_, _-_, _≤_}
 use native.Mathlib.Omega.{arith}
 use lib.ListN.{getD, take, drop}
 use Rattle.boxes.specs.Rooms.{someRoom}
-use Rattle.boxes.proofs.SettleLaws.{any-holds, any-on, position-named, some-room-on}
+use Rattle.boxes.proofs.EqualityLooks.{position-fits}
+use Rattle.boxes.proofs.SettledEqualities.{some-room-on}
+use Rattle.boxes.proofs.TestsInARow.{any-holds, any-on}
 use Rattle.boxes.proofs.settle.some_room.Statement.{statement}
 use Rattle.boxes.proofs.settle.some_room.Tie as tie
 
@@ -21,7 +23,7 @@ named : (c : tie.In-loop Inv-loop μ-loop)
     → (1 ≤ getD (c .before .before .before .args .positions .now) (c .before .loop .i) 0) × (getD (c .before .before .before .args .positions .now) (c .before .loop .i) 0 ≤ c .before .before .before .args .v)
 named c =
     let start = c .before .before .before in
-    position-named (start .args .count) (c .before .loop .i) (start .args .positions .now) (omega arith) (start .pre .0) (start .args .v) (start .pre .2)
+    position-fits (start .args .v) (start .args .count) (c .before .loop .i) (start .args .positions .now) (start .pre .2) (omega arith) (start .pre .0)
 
 -- the start, from the test of a room
 abbrev start : tie.After-inside Inv-loop μ-loop → tie.Start Inv-loop μ-loop
