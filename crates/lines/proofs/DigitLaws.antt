@@ -7,15 +7,21 @@ use native.Mathlib.Decide.{decLt}
 use native.Mathlib.Omega.{arith}
 use lib.ListN.{length, length-append}
 use borrow.Author.Tests.{lt-ltb, le-ltb}
+use mir.Syntax.{w8, w64}
+use mir.Val.{Fits}
 use Rattle.lines.specs.Text.{digits, decimal}
 
+-- a byte is a number of 64 bits
+pub byte-fits : {x : ℕ} → Fits w8 x → Fits w64 x
+byte-fits h = omega arith
+
 -- the digits of a number below 10
-digits-small : (k n : ℕ) → n < 10 → digits (suc k) n ≡ (48 + n) ∷ []
+pub digits-small : (k n : ℕ) → n < 10 → digits (suc k) n ≡ (48 + n) ∷ []
 unfolding digits
 digits-small k n lt = rw (lt-ltb n 10 lt)
 
 -- the digits of a number from 10 on: those of its tenth, and the last
-digits-large : (k n : ℕ) → 10 ≤ n → digits (suc k) n ≡ digits k (n / 10) ++ ((48 + n % 10) ∷ [])
+pub digits-large : (k n : ℕ) → 10 ≤ n → digits (suc k) n ≡ digits k (n / 10) ++ ((48 + n % 10) ∷ [])
 unfolding digits
 digits-large k n le = rw (le-ltb n 10 le)
 

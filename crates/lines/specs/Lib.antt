@@ -1,2 +1,5 @@
 pub mod Text
 pub mod Grown
+pub mod Printed
+pub mod ReadBack
+pub mod Words

@@ -7,6 +7,8 @@ ghost use lib.ListN.{length, take};
 ghost use Rattle.lines.specs.Text.{decimal, behind, spaced, newline, lineOf};
 ghost use Rattle.lines.specs.Grown.{grown, RoomFor};
 
+pub mod answer;
+pub mod reason;
 pub mod reply;
 
 // A text of at most 2,048 bytes: the first `len` bytes are the text, and those behind it are 0.
@@ -86,7 +88,7 @@ impl Text {
 
     // Values more, with single spaces between.
     fn spaced(self, values: &[u8]) -> Text
-        requires { ⌜ RoomFor (21 * length (now values)) self ⌝ }
+        requires { ⌜ RoomFor (21 * length (now values) + 20) self ⌝ }
         ensures { λ r. ⌜ r ≡ grown self (spaced (now (values .entry))) ⌝ }
     {
         if values.len() < 1 {
@@ -97,7 +99,7 @@ impl Text {
 
     // The line of the first v values more: of all where there are fewer.
     fn values(self, values: &[u8], v: usize) -> Text
-        requires { ⌜ RoomFor (21 * length (now values) + 1) self ⌝ }
+        requires { ⌜ RoomFor (21 * length (now values) + 21) self ⌝ }
         ensures { λ r. ⌜ r ≡ grown self (spaced (take v (now (values .entry))) ++ newline) ⌝ }
     {
         let count = smaller(v, values.len());

@@ -1,8 +1,10 @@
-// A reply as the text that the program prints. The contracts cite specs/Text.antt.
+// A reply as the text that the program prints. The contracts cite specs/Text.antt and
+// specs/Printed.antt.
 ghost use mathlib.Core.Path.{_≡_};
 ghost use Prim.Native.Nat.{_≤_};
-ghost use lib.ListN.{length, take};
-ghost use Rattle.lines.specs.Text.{firstLine, textOf, lineOf};
+ghost use lib.ListN.{length};
+ghost use Rattle.lines.specs.Text.{firstLine, lineOf};
+ghost use Rattle.lines.specs.Printed.{Shown};
 use super::Text;
 use planner::plan::Reply;
 
@@ -16,7 +18,7 @@ fn first_line(word: &[u8], first: u64, second: u64) -> Text
 
 // What the program prints for a reply, where the first v values are a plan's.
 pub fn text(reply: Reply, values: &[u8; 64], v: usize) -> Text
-    ensures { λ r. ⌜ r ≡ lineOf (textOf reply (take v (now (values .entry)))) ⌝ }
+    ensures { λ r. ⌜ Shown reply (now (values .entry)) v r ⌝ }
 {
     match reply {
         Reply::Plan { splits, dead_ends } => {

@@ -7,6 +7,7 @@ use lib.ListN.{length, getD, take}
 use lib.Seq.{length-take-le, take-all}
 use Rattle.lines.specs.Text.{behind}
 use Rattle.lines.specs.Grown.{grown}
+use Rattle.lines.proofs.DigitLaws.{byte-fits}
 use Rattle.lines.proofs.GrownLaws.{grown-more, grown-none, room-left}
 use Rattle.lines.proofs.SpacedLaws.{behind-next, behind-length}
 use Rattle.lines.proofs.Text.all_behind.Statement.{statement}
@@ -28,7 +29,7 @@ shared-slice-read-behind : tie.Need-shared-slice-read-behind Inv-loop μ-loop
 shared-slice-read-behind c = omega arith
 
 cast-behind : tie.Need-cast-behind Inv-loop μ-loop
-cast-behind c = omega (arith, c .shared-slice-known2 .given (c .before .before .loop .i))
+cast-behind c = byte-fits (c .shared-slice-known2 .given _)
 
 behind-requires : tie.Need-behind-requires Inv-loop μ-loop
 behind-requires c κs =

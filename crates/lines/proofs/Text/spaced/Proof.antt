@@ -1,13 +1,13 @@
 -- `lines::Text::spaced` meets its contract: the first value, and then those behind it. Assumes nothing.
 use mathlib.Core.Path.{sym, ap, _∙_}
 use mathlib.Core.List.{List, _++_}
-use Prim.Native.Nat.{ℕ}
+use Prim.Native.Nat.{ℕ, _*_}
 use native.Mathlib.Omega.{arith}
-use lib.ListN.{length, getD, length-drop}
+use lib.ListN.{length, getD, length-take, length-drop}
 use borrow.Author.Needs.{needs}
 use Rattle.lines.specs.Text.{decimal, behind}
-use Rattle.lines.specs.Grown.{grown}
-use Rattle.lines.proofs.DigitLaws.{decimal-length}
+use Rattle.lines.specs.Grown.{grown, RoomFor}
+use Rattle.lines.proofs.DigitLaws.{byte-fits, decimal-length}
 use Rattle.lines.proofs.GrownLaws.{grown-more, grown-none, room-less, room-left}
 use Rattle.lines.proofs.SpacedLaws.{rest-part, spaced-first, spaced-none}
 use Rattle.lines.proofs.Text.spaced.Statement.{statement}
@@ -22,7 +22,7 @@ shared-slice-read-number : tie.Need-shared-slice-read-number
 shared-slice-read-number c = search needs
 
 cast-number : tie.Need-cast-number
-cast-number c = omega (arith, c .shared-slice-known2 .given 0)
+cast-number c = byte-fits (c .shared-slice-known2 .given _)
 
 number-requires : tie.Need-number-requires
 number-requires c κs = room-less (omega (arith, decimal-length (getD (c .before .before .before .args .values .now) 0 0))) (c .before .before .before .pre)
@@ -40,8 +40,8 @@ all-behind-requires : tie.Need-all-behind-requires
 all-behind-requires c κs =
     let start = c .before .before .before .before .before in
     let xs = start .args .values .now in
-    room-left (start .args .self) (decimal (getD xs 0 0)) (c .before .number .ensures) (start .pre)
-    (omega (arith, decimal-length (getD xs 0 0), ap length (rest-part 1 xs), length-drop 1 xs))
+    let room : RoomFor (21 * length xs) (c .before .number .result) = room-left (start .args .self) (decimal (getD xs 0 0)) (c .before .number .ensures) (start .pre) (omega (arith, decimal-length (getD xs 0 0))) in
+    simp (length-take, length-drop) (room-less (omega arith) room)
 
 returns-2 : tie.Need-returns-2
 returns-2 c =

@@ -1,0 +1,39 @@
+// From the bytes of a file to the text that the program prints for it. The contracts cite
+// specs/Printed.antt.
+ghost use mathlib.Core.Path.{_≡_};
+ghost use Rattle.rules.specs.Reading.{reading};
+ghost use Rattle.lines.specs.Printed.{Printed, positionsOf};
+use super::Text;
+use super::reply::text;
+use planner::plan::plan;
+use rules::check::Checked;
+use rules::check::check;
+use sets::Room;
+
+// The splits that the program allows.
+const ALLOWANCE: u64 = 100_000;
+
+// The number of positions of a sound file; 0 where the file is refused.
+fn positions(input: &[u8]) -> usize
+    ensures { λ r. ⌜ r ≡ positionsOf (reading (now (input .entry))) ⌝ }
+{
+    let checked = check(input);
+    match checked {
+        Checked::Sound {
+            positions,
+            values: _,
+        } => positions as usize,
+        Checked::Refused { .. } => 0,
+    }
+}
+
+// What the program prints for an input: the reply with 100,000 splits allowed, and the values of a
+// plan, one for each of the file's positions.
+pub fn answer(input: &[u8]) -> Text
+    ensures { λ r. ⌜ Printed (now (input .entry)) r ⌝ }
+{
+    let mut values = [0u8; Room::POSITIONS];
+    let reply = plan(input, &mut values, ALLOWANCE);
+    let v = positions(input);
+    text(reply, &values, v)
+}
