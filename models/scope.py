@@ -1,0 +1,298 @@
+# A model of document 01, written from its text alone: reading a rule file, what rules mean, the search step
+# for step, the reply, and what the program prints. A set is a Python set of the values in it.
+from collections import namedtuple
+
+# The ceilings.
+MOST_POSITIONS = 64
+MOST_VALUES = 32
+MOST_BYTES = 32768
+MOST_SPLITS = 1000000
+LEAST_BUFFER = 64
+# The splits that the program allows.
+PROGRAM_SPLITS = 100000
+
+# The replies that are not refusals.
+PLAN, NONE, UNDECIDED, STALLED = 0, 1, 2, 21
+# A reply. The values are those of a plan; every other reply has none.
+Reply = namedtuple('Reply', 'number place splits dead_ends values')
+
+# The fields of a rule file. A field's place is the offset of its tag byte.
+Header = namedtuple('Header', 'place v n')
+Clause = namedtuple('Clause', 'place atoms')
+Equality = namedtuple('Equality', 'place values positions')
+# "The position's value is in this set."
+Atom = namedtuple('Atom', 'position values')
+
+
+# A refusal: its number, its place, and in words what is wrong there.
+class Refused(Exception):
+    def __init__(self, number, place, words):
+        super().__init__(number, place, words)
+        self.number, self.place, self.words = number, place, words
+
+
+# ---- The rule file
+
+# The set that a number stands for: the lowest bit stands for value 1, the next one for value 2, and so on.
+def set_of(number):
+    values, value = set(), 1
+    while number > 0:
+        if number % 2 == 1:
+            values.add(value)
+        number, value = number // 2, value + 1
+    return frozenset(values)
+
+
+# A four-byte set, high byte first.
+def set_at(content, at):
+    number = 0
+    for byte in content[at:at + 4]:
+        number = number * 256 + byte
+    return set_of(number)
+
+
+# The tag of a field: the first is 1, and a later one is 2 or 3.
+def check_tag(tag, place):
+    if place == 0 and tag != 1:
+        raise Refused(14, place, f'the first tag is {tag}, and not 1')
+    if place > 0 and tag == 1:
+        raise Refused(15, place, 'a second header: tag 1 comes first and once')
+    if tag not in (1, 2, 3):
+        raise Refused(16, place, f'tag {tag} is none of 1, 2, 3')
+
+
+# The length that a tag asks for.
+def check_length(tag, length, place):
+    if tag == 1 and length != 2:
+        raise Refused(17, place, f'a header of length {length}, which has to be 2')
+    if tag == 2 and length % 5 != 0:
+        raise Refused(17, place, f'a clause of length {length}, which is not 5 times a number of atoms')
+    if tag == 3 and not 4 <= length <= 68:
+        raise Refused(17, place, f'an equality of length {length}, which has to be 4 to 68')
+
+
+# One field: its tag and its content. In order: a head that is cut, tag, length, bytes missing.
+def read_field(file, place):
+    left = len(file) - place
+    if left < 3:
+        raise Refused(13, place, f'bytes missing: of the 3 for tag and length {left} are left')
+    tag, length = file[place], file[place + 1] * 256 + file[place + 2]
+    check_tag(tag, place)
+    check_length(tag, length, place)
+    if left - 3 < length:
+        raise Refused(13, place, f'bytes missing: the length says {length}, and {left - 3} are left')
+    return tag, file[place + 3:place + 3 + length]
+
+
+# A header: v, then n.
+def read_header(content, place):
+    v, n = content
+    if not 1 <= v <= MOST_POSITIONS:
+        raise Refused(18, place, f'v is {v}, which is not 1 to {MOST_POSITIONS}')
+    if not 1 <= n <= MOST_VALUES:
+        raise Refused(18, place, f'n is {n}, which is not 1 to {MOST_VALUES}')
+    return Header(place, v, n)
+
+
+# A position is 1 to v.
+def check_position(position, header, place, where):
+    if not 1 <= position <= header.v:
+        raise Refused(19, place, f'{where} is position {position}, which is not 1 to {header.v}')
+
+
+# A set has no value above n.
+def check_set(values, header, place, where):
+    above = [value for value in sorted(values) if value > header.n]
+    if above:
+        raise Refused(20, place, f'{where} has the value {above[0]}, which is above n, {header.n}')
+
+
+# A clause: atoms of five bytes, a position byte and a four-byte set. In an atom 19 comes before 20.
+def read_clause(content, place, header):
+    atoms = []
+    for at in range(0, len(content), 5):
+        atom = Atom(content[at], set_at(content, at + 1))
+        check_position(atom.position, header, place, f'in atom {at // 5 + 1} there')
+        check_set(atom.values, header, place, f'the set of atom {at // 5 + 1}')
+        atoms.append(atom)
+    return Clause(place, atoms)
+
+
+# An equality: a four-byte set M, then position bytes. 20 comes before 19.
+def read_equality(content, place, header):
+    values, positions = set_at(content, 0), list(content[4:])
+    check_set(values, header, place, 'the set M')
+    for k, position in enumerate(positions):
+        check_position(position, header, place, f'number {k + 1} of those named')
+    return Equality(place, values, positions)
+
+
+# The fields one after another, the header first, up to the first fault, which is raised.
+def fields(file):
+    if len(file) == 0:
+        raise Refused(14, 0, 'the input is empty')
+    header, place = None, 0
+    while place < len(file):
+        tag, content = read_field(file, place)
+        if tag == 1:
+            header = read_header(content, place)
+            yield header
+        elif tag == 2:
+            yield read_clause(content, place, header)
+        else:
+            yield read_equality(content, place, header)
+        place += 3 + len(content)
+
+
+# A whole file: its header and its rules.
+def read(file):
+    header, *rules = fields(file)
+    return header, rules
+
+
+# ---- What rules mean
+
+# Whether an assignment has its value for this atom's position in the atom's set.
+def meets_atom(atom, assignment):
+    return assignment[atom.position - 1] in atom.values
+
+
+# The set of values taken by the named positions.
+def taken(positions, assignment):
+    return {assignment[position - 1] for position in positions}
+
+
+# An assignment meets a clause if it does so for some atom, and an equality if the values taken are exactly M.
+def meets(rule, assignment):
+    if isinstance(rule, Clause):
+        return any(meets_atom(atom, assignment) for atom in rule.atoms)
+    return taken(rule.positions, assignment) == rule.values
+
+
+# The clauses that a rule means the same as, each a list of atoms. Those of an equality: for each named position
+# "it is in M"; then for each value m in M, rising, "one of the named positions is in {m}".
+def clauses_of(rule):
+    if isinstance(rule, Clause):
+        return [rule.atoms]
+    inside = [[Atom(position, rule.values)] for position in rule.positions]
+    each = [[Atom(position, frozenset([m])) for position in rule.positions] for m in sorted(rule.values)]
+    return inside + each
+
+
+# ---- The search, step for step
+
+# A clause as its positions, each with the union of that position's sets in the clause.
+def united(atoms):
+    unions = {}
+    for position, values in atoms:
+        unions[position] = unions.get(position, frozenset()) | values
+    return list(unions.items())
+
+
+# The positions that are live in a clause, with their unions: those whose room meets the union. Two are enough:
+# step 1 asks whether there is none, exactly one, or more.
+def live_in(clause, rooms):
+    live = []
+    for position, union in clause:
+        if not union.isdisjoint(rooms[position]):
+            live.append((position, union))
+            if len(live) == 2:
+                break
+    return live
+
+
+# Step 1: rounds through the clauses in file order, each room cut at once, until a round cuts nothing. None where
+# a clause has no live position: the box is dead.
+def shrink(clauses, rooms):
+    rooms, cut = dict(rooms), True
+    while cut:
+        cut = False
+        for clause in clauses:
+            live = live_in(clause, rooms)
+            if not live:
+                return None
+            position, union = live[0]
+            if len(live) == 1 and not rooms[position] <= union:
+                rooms[position] = rooms[position] & union
+                cut = True
+    return rooms
+
+
+# Step 2: every clause has a position whose room lies inside its union.
+def settled(clauses, rooms):
+    return all(any(rooms[position] <= union for position, union in clause) for clause in clauses)
+
+
+# Step 4: the lowest-numbered position with two or more values in its room, or None.
+def split_position(rooms):
+    return next((position for position in sorted(rooms) if len(rooms[position]) >= 2), None)
+
+
+# Step 4: the box with the smallest value alone in that room, and the box with the others.
+def halves(rooms, position):
+    smallest = frozenset([min(rooms[position])])
+    return {**rooms, position: smallest}, {**rooms, position: rooms[position] - smallest}
+
+
+# Steps 1 to 4 from the box of full rooms on. 01's search calls itself for each half; here the boxes that are still
+# to be searched wait in a list, the next one last, so that the second half waits until the first gave no plan.
+def search(header, rules, allowance):
+    clauses = [united(atoms) for rule in rules for atoms in clauses_of(rule)]
+    full = frozenset(range(1, header.n + 1))
+    waiting = [{position: full for position in range(1, header.v + 1)}]
+    splits = dead_ends = 0
+    while waiting:
+        rooms = shrink(clauses, waiting.pop())
+        if rooms is None:
+            dead_ends += 1
+            continue
+        if settled(clauses, rooms):
+            return Reply(PLAN, 0, splits, dead_ends, tuple(min(rooms[position]) for position in sorted(rooms)))
+        position = split_position(rooms)
+        if position is None:
+            return Reply(STALLED, 0, splits, dead_ends, ())
+        if splits == allowance:
+            return Reply(UNDECIDED, 0, splits, dead_ends, ())
+        splits += 1
+        first, second = halves(rooms, position)
+        waiting += [second, first]
+    return Reply(NONE, 0, splits, dead_ends, ())
+
+
+# ---- Replies
+
+# What a call is refused for before its file is looked at: 10, 11, 12.
+def check_call(file, buffer_length, allowance):
+    if len(file) > MOST_BYTES:
+        raise Refused(10, 0, f'the input has more than {MOST_BYTES} bytes')
+    if buffer_length < LEAST_BUFFER:
+        raise Refused(11, 0, f'the answer buffer has {buffer_length} bytes, which is under {LEAST_BUFFER}')
+    if allowance > MOST_SPLITS:
+        raise Refused(12, 0, f'the allowance is {allowance}, which is above {MOST_SPLITS}')
+
+
+# The reply to an input, for an answer buffer of some length and an allowance of splits.
+def reply(file, buffer_length, allowance):
+    try:
+        check_call(file, buffer_length, allowance)
+        header, rules = read(file)
+    except Refused as refused:
+        return Reply(refused.number, refused.place, 0, 0, ())
+    return search(header, rules, allowance)
+
+
+# A reply as the lines that the program prints.
+def text(reply):
+    if reply.number == PLAN:
+        values = ' '.join(str(value) for value in reply.values)
+        return f'PLAN {reply.splits} {reply.dead_ends}\n{values}\n'
+    if reply.number == NONE:
+        return f'NONE {reply.splits} {reply.dead_ends}\n'
+    if reply.number == UNDECIDED:
+        return f'UNDECIDED {reply.splits} {reply.dead_ends}\n'
+    return f'REFUSED {reply.number} {reply.place}\n'
+
+
+# What the program prints for an input.
+def printed(file):
+    return text(reply(file, LEAST_BUFFER, PROGRAM_SPLITS))
