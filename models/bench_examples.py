@@ -1,0 +1,58 @@
+# Makes the stored output of `bench_examples`: 01's examples and the ceilings, with the replies of the model. 01's
+# "bytes from v on stay; all other replies write nothing" is the word `kept` at the end of each line.
+import scope
+from writing import clause, equality, field, header
+
+CASE_E = header(2, 2) + equality({1, 2}, 1, 2)
+CASE_H = header(3, 3) + equality({1, 2, 3}, 1, 2, 3)
+# A file of 32,768 bytes: v 1, n 32, and 6552 atoms whose five bytes are all 1.
+LONGEST = header(1, 32) + field(2, bytes([1] * 5 * 6552))
+
+
+# The line of one call: the name, the reply's four numbers, the values of a plan.
+def show(name, file, allowance=1000000, lent=70):
+    number, place, splits, dead_ends, values = scope.reply(file, lent, allowance)
+    print(name, number, place, splits, dead_ends, *values, 'kept')
+
+
+# The starred cases.
+show('a', header(3, 2) + clause((1, {2}), (2, {2}), (3, {1})) + clause((1, {1}), (2, {1})) + clause((3, {2}))
+     + clause((1, {2}), (2, {1})))
+show('b', header(4, 2) + clause((1, {2}), (2, {1}), (3, {1}), (4, {1})) + clause((2, {2}), (4, {1}))
+     + clause((3, {2}), (4, {1})) + clause((4, {2})))
+show('c', header(2, 3))
+show('d', header(2, 3) + clause())
+show('e', CASE_E)
+show('f', CASE_E, 0)
+show('g', header(2, 3) + equality({1, 2, 3}, 1, 2))
+show('h', CASE_H)
+show('i', CASE_H, 2)
+show('j', header(2, 3) + clause((1, {2, 3})) + clause((1, {1}), (2, {3})))
+show('k', header(2, 2) + clause((1, {1}), (2, {1})))
+show('l', header(3, 2) + b''.join(clause((2, {x}), (3, {y})) for x in (1, 2) for y in (1, 2)))
+
+# What is refused in a file, and what is not.
+show('empty-input', b'')
+show('bytes-01-00', b'\x01\x00')
+show('v-65', header(65, 32))
+show('v-64-n-32', header(64, 32))
+show('second-header', header(2, 2) + header(2, 2))
+show('clause-length-4', header(2, 2) + field(2, b'\x01\x00\x00\x00'))
+show('clause-set-4', header(2, 2) + clause((1, {3})))
+show('equality-set-4', header(2, 2) + equality({3}, 1))
+
+# The ceilings, and the order of their refusals.
+show('input-32769', LONGEST + b'\x01')
+show('input-32768', LONGEST)
+show('buffer-63', header(64, 32), lent=63)
+show('buffer-0', header(64, 32), lent=0)
+show('buffer-64', header(64, 32), lent=64)
+show('allowance-1000001', CASE_E, 1000001)
+show('10-before-11-12', bytes(32769), 1000001, 63)
+show('10-before-11', bytes(32769), lent=63)
+show('10-before-12', bytes(32769), 1000001)
+show('11-before-12-14', b'', 1000001, 63)
+show('11-before-12', header(2, 3), 1000001, 63)
+show('11-before-14', b'', lent=63)
+show('12-before-14', b'', 1000001)
+show('12-before-13', b'\x01\x00', 1000001)
