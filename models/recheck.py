@@ -1,0 +1,295 @@
+# A second opinion on one sheet: says in words what a rule file asks for, and whether a reply is the right one.
+#
+#     python3 recheck.py [--all] FILE REPLY
+#
+# FILE is a rule file. REPLY is a file with what the program printed for it, or - for standard input.
+# Exit status: 0 the reply agrees with the file; 1 it does not; 2 bad use, or something cannot be read or written;
+# 3 nothing speaks against the reply, but its search is too long to be redone (--all redoes it whatever it takes).
+import argparse
+import os
+import re
+import sys
+from collections import Counter
+from itertools import zip_longest
+
+import scope
+
+# A printed reply: its first line, and the line of values.
+NUMBER = '(0|[1-9][0-9]{0,8})'
+FIRST_LINE = re.compile(f'(PLAN|NONE|UNDECIDED|REFUSED) {NUMBER} {NUMBER}\n')
+VALUES_LINE = re.compile(f'{NUMBER}( {NUMBER})*\n')
+KINDS = {'PLAN': scope.PLAN, 'NONE': scope.NONE, 'UNDECIDED': scope.UNDECIDED}
+
+
+# ---- The file in words
+
+# A set: {1,3}, and {} for the empty set.
+def set_words(values):
+    return '{' + ','.join(str(value) for value in sorted(values)) + '}'
+
+
+# A list of positions.
+def position_words(positions):
+    if len(positions) <= 1:
+        return f'position {positions[0]}' if positions else 'no positions'
+    return 'positions ' + ', '.join(str(position) for position in positions)
+
+
+# Remarks in brackets, or nothing.
+def remarks(notes):
+    return f' ({"; ".join(notes)})' if notes else ''
+
+
+# The positions that stand more than once, rising, each with how often it does.
+def repeated(positions):
+    return [(position, times) for position, times in sorted(Counter(positions).items()) if times > 1]
+
+
+# A clause: its atoms, with a remark on empty sets and on positions that stand in several atoms.
+def clause_words(clause):
+    if not clause.atoms:
+        return 'clause: empty, with no atom (no assignment meets it)'
+    atoms = ' or '.join(f'position {position} in {set_words(values)}' for position, values in clause.atoms)
+    unions = dict(scope.united(clause.atoms))
+    notes = [f'position {position} stands in {times} atoms, together {set_words(unions[position])}'
+             for position, times in repeated([position for position, values in clause.atoms])]
+    if not all(values for position, values in clause.atoms):
+        notes.append('{} is the empty set: no value is in it')
+    return f'clause: {atoms}{remarks(notes)}'
+
+
+# An equality: its positions and M, with a remark on no positions, on an empty M and on positions named twice.
+def equality_words(equality):
+    notes = [f'position {position} is named {times} times, which means the same as once'
+             for position, times in repeated(equality.positions)]
+    if not equality.positions:
+        notes.append('never met: no position takes a value' if equality.values else 'always met')
+    elif not equality.values:
+        notes.append('never met: {} is the empty set, and a position takes some value')
+    return (f'equality: the values of {position_words(equality.positions)} are exactly '
+            f'{set_words(equality.values)}{remarks(notes)}')
+
+
+# Any field.
+def field_words(field):
+    if isinstance(field, scope.Header):
+        return f'header: positions 1 to {field.v}, values 1 to {field.n}'
+    return clause_words(field) if isinstance(field, scope.Clause) else equality_words(field)
+
+
+# Says every field up to the first fault, and the fault. Gives the header and the rules, and no header where the
+# file is refused.
+def decode(file):
+    print('the file:')
+    found = []
+    try:
+        scope.check_call(file, scope.LEAST_BUFFER, scope.PROGRAM_SPLITS)
+        for field in scope.fields(file):
+            print(f'byte {field.place}: {field_words(field)}')
+            found.append(field)
+        return found[0], found[1:]
+    except scope.Refused as refused:
+        print(f'byte {refused.place}: refused, {refused.number}: {refused.words}')
+        return None, []
+
+
+# ---- The reply as it was printed
+
+# What was printed is no reply, and why.
+class Unreadable(Exception):
+    pass
+
+
+# What was printed, line by line, each with its end.
+def lines_of(printed):
+    return re.findall('[^\n]*\n|[^\n]+', printed)
+
+
+# Takes what was printed apart. Only the program's own form is read: its words, single spaces, no line too many.
+def parse(printed):
+    lines = lines_of(printed)
+    if not lines:
+        raise Unreadable('the reply is empty')
+    if not lines[-1].endswith('\n'):
+        raise Unreadable(f'line {len(lines)} of the reply is not ended')
+    first = FIRST_LINE.fullmatch(lines[0])
+    if not first:
+        raise Unreadable('line 1 is not PLAN, NONE, UNDECIDED or REFUSED with two numbers and single spaces')
+    kind, one, two = first[1], int(first[2]), int(first[3])
+    wanted = 2 if kind == 'PLAN' else 1
+    if len(lines) > wanted:
+        raise Unreadable(f'{kind} ends with line {wanted}, and the reply goes on')
+    if kind == 'PLAN' and not VALUES_LINE.fullmatch(''.join(lines[1:])):
+        raise Unreadable('PLAN has no line 2 of values with single spaces')
+    if kind == 'REFUSED':
+        return scope.Reply(one, two, 0, 0, ())
+    return scope.Reply(KINDS[kind], 0, one, two, tuple(int(word) for line in lines[1:] for word in line.split()))
+
+
+# ---- What the reply says, held against the file
+
+# The value that a position takes.
+def takes(position, values):
+    return f'position {position} takes {values[position - 1]}'
+
+
+# Why a clause is met, by the first atom that shows it, or why it is not.
+def clause_verdict(clause, values):
+    for k, atom in enumerate(clause.atoms, 1):
+        if scope.meets_atom(atom, values):
+            return f'met by atom {k}: {takes(atom.position, values)}, in {set_words(atom.values)}'
+    failed = [f'{takes(atom.position, values)}, not in {set_words(atom.values)}' for atom in clause.atoms]
+    return 'NOT met: ' + ('; '.join(failed) if failed else 'the clause is empty')
+
+
+# Why an equality is met, or why it is not.
+def equality_verdict(equality, values):
+    taken = scope.taken(equality.positions, values)
+    if taken == equality.values:
+        return f'met: the values taken are exactly {set_words(taken)}'
+    return f'NOT met: the values taken are {set_words(taken)}, and not exactly {set_words(equality.values)}'
+
+
+# Holds a plan against every rule, as the rule was read. Gives what is wrong.
+def check_plan(header, rules, values):
+    if len(values) != header.v:
+        return [f'the plan has {len(values)} values, and there are {header.v} positions']
+    wrong = [f'{takes(position, values)}, which is not 1 to {header.n}'
+             for position in range(1, header.v + 1) if not 1 <= values[position - 1] <= header.n]
+    if wrong:
+        return wrong
+    print('the plan:', *values)
+    for rule in rules:
+        verdict = clause_verdict if isinstance(rule, scope.Clause) else equality_verdict
+        print(f'byte {rule.place}: {verdict(rule, values)}')
+        if not scope.meets(rule, values):
+            wrong.append(f'the rule at byte {rule.place} is not met')
+    print('the plan does NOT meet every rule' if wrong else 'the plan meets every rule')
+    return wrong
+
+
+# Tests what holds for the counts of any file: the splits are allowed; UNDECIDED has used them up; splits leave one
+# box more than there are splits, and all of these are dead where the reply is NONE, and else not all.
+def check_counts(number, splits, dead_ends):
+    wrong = []
+    if splits > scope.PROGRAM_SPLITS or number == scope.UNDECIDED and splits < scope.PROGRAM_SPLITS:
+        wrong.append(f'{splits} splits, where the program allows {scope.PROGRAM_SPLITS}')
+    if number == scope.NONE and dead_ends == splits + 1:
+        print('the dead ends are splits + 1, as they are where all boxes are dead')
+    elif number == scope.NONE or dead_ends > splits:
+        wrong.append(f'{dead_ends} dead ends do not go with {splits} splits')
+    return wrong
+
+
+# Tests a reply without redoing the search. Gives what is wrong.
+def check_reply(header, rules, reply):
+    if reply.number not in KINDS.values():
+        return ['the file is not refused'] if header and reply.number != scope.STALLED else []
+    if not header:
+        return ['the file is refused, and the reply is not']
+    wrong = check_plan(header, rules, reply.values) if reply.number == scope.PLAN else []
+    return wrong + check_counts(reply.number, reply.splits, reply.dead_ends)
+
+
+# ---- The search redone
+
+# How many splits are redone without --all: 20,000, and fewer where there are many atoms, as each split looks at the
+# atoms of all clauses.
+def splits_redone(rules):
+    atoms = sum(len(clause) for rule in rules for clause in scope.clauses_of(rule))
+    return min(20000, 10000000 // max(atoms, 1))
+
+
+# Says which plan is the first, by the search that was redone. Gives what is wrong.
+def check_first(values, redone):
+    if values == redone.values:
+        print('no earlier assignment meets the rules: the search, redone, finds this one first')
+    elif redone.number == scope.PLAN:
+        print('the first assignment that meets the rules is another:', *redone.values)
+    elif redone.number == scope.NONE:
+        print('no assignment meets the rules: the search, redone, finds none')
+    return ['an earlier assignment meets the rules'] if () < redone.values < values else []
+
+
+# A line of a reply where it differs, with its end.
+def shown(line):
+    return 'no such line' if line is None else ascii(line)
+
+
+# Holds what was printed against what is right, line by line. Gives what is wrong.
+def compare(printed, right):
+    wrong = []
+    for k, (given, redone) in enumerate(zip_longest(lines_of(printed), lines_of(right)), 1):
+        if given == redone:
+            print(f'line {k} agrees: {given[:-1]}')
+        else:
+            print(f'line {k} DIFFERS: the reply has {shown(given)}; redone: {shown(redone)}')
+            wrong.append(f'line {k} differs')
+    return wrong
+
+
+# Redoes the whole reply. Gives what is wrong, and whether the search was redone to its end.
+def redo(file, rules, printed, reply, whole):
+    allowed = scope.PROGRAM_SPLITS if whole else splits_redone(rules)
+    redone = scope.reply(file, scope.LEAST_BUFFER, allowed)
+    if redone.number == scope.UNDECIDED and allowed < scope.PROGRAM_SPLITS:
+        print(f'the search needs more than {allowed} splits: the counts were NOT redone, nor was it searched for a '
+              'plan that is earlier, or for any (--all does both)')
+        few = reply and reply.number in KINDS.values() and reply.splits <= allowed
+        return [f'the search needs more than {reply.splits} splits'] if few else [], False
+    print(f'the reply redone, with {scope.PROGRAM_SPLITS} splits allowed:')
+    wrong = check_first(reply.values, redone) if reply and reply.number == scope.PLAN else []
+    return wrong + compare(printed, scope.text(redone)), True
+
+
+# ---- The opinion
+
+# The whole opinion on a file and on what was printed for it; gives the exit status.
+def opinion(file, printed, whole):
+    header, rules = decode(file)
+    reply, wrong = None, []
+    try:
+        reply = parse(printed)
+        print(f'the reply: {lines_of(printed)[0][:-1]}')
+        wrong += check_reply(header, rules, reply)
+    except Unreadable as unreadable:
+        wrong.append(str(unreadable))
+    differences, to_its_end = redo(file, rules, printed, reply, whole)
+    wrong += differences
+    if wrong:
+        print(f'the reply does NOT agree with the file: {"; ".join(wrong)}')
+        return 1
+    if not to_its_end:
+        print('nothing speaks against the reply, but it was NOT redone to its end')
+        return 3
+    print('the reply agrees with the file')
+    return 0
+
+
+# The first bytes of a file, one more than an input may have. The name 0 is standard input.
+def bytes_of(name):
+    with open(name, 'rb') as opened:
+        return opened.read(scope.MOST_BYTES + 1)
+
+
+# Reads what the command names, and says what is found.
+def main():
+    command = argparse.ArgumentParser(description='A second opinion on a reply to a rule file.', allow_abbrev=False)
+    command.add_argument('--all', action='store_true', help='redo the search whatever it takes')
+    command.add_argument('file', metavar='FILE', help='a rule file')
+    command.add_argument('reply', metavar='REPLY', help='a file with what the program printed, or - for standard input')
+    named = command.parse_args()
+    file = bytes_of(named.file)
+    printed = bytes_of(0 if named.reply == '-' else named.reply).decode('latin-1')
+    status = opinion(file, printed, named.all)
+    print(end='', flush=True)
+    return status
+
+
+if __name__ == '__main__':
+    try:
+        sys.exit(main())
+    except OSError as error:
+        name = 'standard input or output' if error.filename in (None, 0) else error.filename
+        print(f'recheck: {name}: {error.strerror}', file=sys.stderr)
+        os._exit(2)
