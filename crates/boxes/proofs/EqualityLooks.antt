@@ -8,7 +8,7 @@ use native.Mathlib.Numerals.{add-one}
 use native.Mathlib.Omega.{arith}
 use lib.ListN.{length, getD, set, take, drop, length-take, length-drop, drop-of-length-le}
 use lib.Seq.{drop-cons, getD-take}
-use Rattle.sets.specs.Sets.{single, union, common, complement, values, smallest, beside, others}
+use Rattle.sets.specs.Sets.{single, union, common, values, smallest, others}
 use Rattle.sets.proofs.Smallest.{values-others, values-of-empty}
 use Rattle.rules.specs.declared.field.Tag.the-variants.{Equality}
 use Rattle.rules.specs.Clauses.{atomIn, equalityClauses, clausesOf}
@@ -76,11 +76,6 @@ pub position-fits : (v count i : ℕ) (positions : List ℕ) → PositionsFit v 
 position-fits v count i positions fit h l =
     subst (λ (p : ℕ). (1 ≤ p) × (p ≤ v)) (getD-take count positions i 0 h)
     (every-at-place (λ p. (1 ≤ p) × (p ≤ v)) (take count positions) i fit (omega (arith, length-take count positions)))
-
--- what a set has beside its smallest value, as the code computes it
-pub others-computed : (m one beyond rest : ℕ) → one ≡ single (smallest m) → beyond ≡ complement 32 one → rest ≡ common m beyond → rest ≡ others m
-unfolding others beside
-others-computed m one beyond rest e f g = g ∙ ap (common m) (f ∙ ap (complement 32) e)
 
 -- the values of a set that is not empty: the smallest, then the others
 pub next-value : {A : Type 0} (f : ℕ → A) (m rest : ℕ) → m < 2 ^ 32 → (m ≡ 0 → ⊥) → rest ≡ others m

@@ -1,3 +1,4 @@
 pub mod Looks
 pub mod Rooms
 pub mod Scans
+pub mod Promise

@@ -1,17 +1,13 @@
-// Where to split, the two halves of a split, and the values of a plan. The contracts cite the boxes
-// and the search of `steps`.
-ghost use mathlib.Core.Path.{_≡_};
-ghost use mathlib.Core.List.{_++_};
-ghost use Prim.Native.Nat.{_-_, _≤_, _<_};
-ghost use lib.ListN.{take, replicate};
-ghost use Rattle.steps.specs.Boxes.{firstHalf, otherHalf, smallestOf};
-ghost use Rattle.steps.specs.Search.{chosen};
+// Where to split, the two halves of a split, and the values of a plan. The contracts cite
+// specs/Promise.antt, which goes by the boxes and the search of `steps`.
+ghost use Prim.Native.Nat.{_≤_, _<_};
+ghost use Rattle.boxes.specs.Promise.{Chooses, FirstHalf, OtherHalf, SmallestValues};
 use sets::Room;
 
 // The index of the first of the v rooms with two or more values; v where there is none.
-pub fn choose(rooms: &[u32; 64], v: usize) -> usize
+pub fn choose(rooms: &[u32; Room::POSITIONS], v: usize) -> usize
     requires { ⌜ v ≤ 64 ⌝ }
-    ensures { λ r. ⌜ r ≡ chosen (take v (now (rooms .entry))) ⌝ }
+    ensures { λ r. ⌜ Chooses (now (rooms .entry)) v r ⌝ }
 {
     // As a slice the rooms are known to be 64.
     let all: &[u32] = rooms;
@@ -27,9 +23,9 @@ pub fn choose(rooms: &[u32; 64], v: usize) -> usize
 }
 
 // The rooms with the smallest value alone in the room at an index.
-pub fn first_half(rooms: [u32; 64], i: usize) -> [u32; 64]
+pub fn first_half(rooms: [u32; Room::POSITIONS], i: usize) -> [u32; Room::POSITIONS]
     requires { ⌜ i < 64 ⌝ }
-    ensures { λ r. ⌜ r ≡ firstHalf i rooms ⌝ }
+    ensures { λ r. ⌜ FirstHalf rooms i r ⌝ }
 {
     let mut half = rooms;
     let room = Room { mask: rooms[i] };
@@ -39,9 +35,9 @@ pub fn first_half(rooms: [u32; 64], i: usize) -> [u32; 64]
 }
 
 // The rooms with the other values in the room at an index.
-pub fn other_half(rooms: [u32; 64], i: usize) -> [u32; 64]
+pub fn other_half(rooms: [u32; Room::POSITIONS], i: usize) -> [u32; Room::POSITIONS]
     requires { ⌜ i < 64 ⌝ }
-    ensures { λ r. ⌜ r ≡ otherHalf i rooms ⌝ }
+    ensures { λ r. ⌜ OtherHalf rooms i r ⌝ }
 {
     let mut half = rooms;
     let room = Room { mask: rooms[i] };
@@ -51,13 +47,13 @@ pub fn other_half(rooms: [u32; 64], i: usize) -> [u32; 64]
 }
 
 // The smallest value of each of the v rooms, and 0 behind them.
-pub fn smallest_values(rooms: &[u32; 64], v: usize) -> [u32; 64]
+pub fn smallest_values(rooms: &[u32; Room::POSITIONS], v: usize) -> [u32; Room::POSITIONS]
     requires { ⌜ v ≤ 64 ⌝ }
-    ensures { λ r. ⌜ r ≡ smallestOf (take v (now (rooms .entry))) ++ replicate (64 - v) 0 ⌝ }
+    ensures { λ r. ⌜ SmallestValues (now (rooms .entry)) v r ⌝ }
 {
     // As a slice the rooms are known to be 64.
     let all: &[u32] = rooms;
-    let mut values = [0u32; 64];
+    let mut values = [0u32; Room::POSITIONS];
     let mut i = 0;
     while i < v {
         let room = Room { mask: all[i] };

@@ -19,7 +19,7 @@ struct Met {
 }
 
 // Scans the atoms of a content of so many bytes for the first whose set its position's room meets.
-fn first_live(rooms: &[u32; 64], content: &[u8], len: usize, v: usize) -> Met
+fn first_live(rooms: &[u32; Room::POSITIONS], content: &[u8], len: usize, v: usize) -> Met
     requires { ⌜ Atoms v len (now content) ⌝ }
     ensures { λ r. ⌜ FirstMet v len (now (content .entry)) (take v (now (rooms .entry))) r ⌝ }
 {
@@ -47,7 +47,7 @@ fn first_live(rooms: &[u32; 64], content: &[u8], len: usize, v: usize) -> Met
 
 // Goes on with the scan: what the room of the one live position shares with all of its sets; 0 where
 // a second position is live, at which the scan is left.
-fn only_live(rooms: &[u32; 64], content: &[u8], len: usize, v: usize, met: Met) -> u32
+fn only_live(rooms: &[u32; Room::POSITIONS], content: &[u8], len: usize, v: usize, met: Met) -> u32
     requires { ⌜ Atoms v len (now content) × FirstMet v len (now content) (take v (now rooms)) met × (met .kept ≡ 0 → ⊥) ⌝ }
     ensures { λ r. ⌜ ((place : ℕ) → lookClause place (atomsOf (len / 5) (now (content .entry))) (take v (now (rooms .entry))) ≡ alive (cutTo r (met .live) (take v (now (rooms .entry))))) ⌝ }
 {
@@ -74,7 +74,12 @@ fn only_live(rooms: &[u32; 64], content: &[u8], len: usize, v: usize, met: Met) 
 // one, and its room is cut down to what it shares with the union of its sets; more, and nothing
 // changes. A position is live by an atom whose set its room meets, and only these atoms' sets matter
 // to the cut: those of its other atoms share nothing with the room.
-pub(crate) fn look_atoms(rooms: &mut [u32; 64], content: &[u8], len: usize, v: usize) -> bool
+pub(crate) fn look_atoms(
+    rooms: &mut [u32; Room::POSITIONS],
+    content: &[u8],
+    len: usize,
+    v: usize,
+) -> bool
     requires { ⌜ Atoms v len (now content) ⌝ }
     ensures { λ r. ⌜ ((place : ℕ) → Looked (lookClause place (atomsOf (len / 5) (now (content .entry))) (take v (now (rooms .entry)))) r (now (rooms .exit)) (drop v (now (rooms .entry)))) ⌝ }
 {

@@ -14,7 +14,12 @@ use rules::field::set_at;
 use sets::Room;
 
 // Looks at the clause "the position is in the set": false where its room has no value of the set.
-pub(crate) fn look_single(rooms: &mut [u32; 64], position: u32, mask: u32, v: usize) -> bool
+pub(crate) fn look_single(
+    rooms: &mut [u32; Room::POSITIONS],
+    position: u32,
+    mask: u32,
+    v: usize,
+) -> bool
     requires { ⌜ (1 ≤ position) × (position ≤ v) × (v ≤ 64) ⌝ }
     ensures { λ r. ⌜ ((place : ℕ) → Looked (lookClauses place ((atomIn mask position ∷ []) ∷ []) (take v (now (rooms .entry)))) r (now (rooms .exit)) (drop v (now (rooms .entry)))) ⌝ }
 {
@@ -30,7 +35,7 @@ pub(crate) fn look_single(rooms: &mut [u32; 64], position: u32, mask: u32, v: us
 
 // Looks at the clauses "it is in the set" of the positions that the first so many bytes name.
 pub(crate) fn look_inside(
-    rooms: &mut [u32; 64],
+    rooms: &mut [u32; Room::POSITIONS],
     positions: &[u8],
     count: usize,
     mask: u32,
@@ -53,7 +58,7 @@ pub(crate) fn look_inside(
 // bytes name: false where none of their rooms meets the set. The scan is left at the second live
 // position.
 pub(crate) fn look_any(
-    rooms: &mut [u32; 64],
+    rooms: &mut [u32; Room::POSITIONS],
     positions: &[u8],
     count: usize,
     mask: u32,
@@ -89,7 +94,7 @@ pub(crate) fn look_any(
 
 // Looks at the clauses "one of the positions is in {x}" of the values x of the set, rising.
 pub(crate) fn look_values(
-    rooms: &mut [u32; 64],
+    rooms: &mut [u32; Room::POSITIONS],
     positions: &[u8],
     count: usize,
     mask: u32,
@@ -111,7 +116,12 @@ pub(crate) fn look_values(
 }
 
 // Looks at the equality that a content of so many bytes is.
-pub(crate) fn look_equality(rooms: &mut [u32; 64], content: &[u8], len: usize, v: usize) -> bool
+pub(crate) fn look_equality(
+    rooms: &mut [u32; Room::POSITIONS],
+    content: &[u8],
+    len: usize,
+    v: usize,
+) -> bool
     requires { ⌜ (4 ≤ len) × (len ≤ length (now content)) × (v ≤ 64) × PositionsFit v (take (len - 4) (drop 4 (now content))) ⌝ }
     ensures { λ r. ⌜ ((place : ℕ) → Looked (lookRule place (ruleOf Equality len (now (content .entry))) (take v (now (rooms .entry)))) r (now (rooms .exit)) (drop v (now (rooms .entry)))) ⌝ }
 {

@@ -1,5 +1,5 @@
 // Whether a box is settled: a nested scan over fields and atoms, which leaves a field at the first
-// atom that shows it. The contracts cite the search of `steps`.
+// atom that shows it. The contracts cite the search of `steps` and specs/Promise.antt.
 ghost use mathlib.Core.Path.{_≡_};
 ghost use mathlib.Core.List.{map};
 ghost use Prim.Native.Nat.{_+_, _-_, _/_, _≤_, _<_};
@@ -8,9 +8,10 @@ ghost use Rattle.sets.specs.Sets.{single, values};
 ghost use Rattle.rules.specs.Clauses.{atomIn};
 ghost use Rattle.rules.specs.Reading.{ruleOf, atomsOf};
 ghost use Rattle.rules.specs.declared.field.Tag.the-variants.{Equality};
-ghost use Rattle.steps.specs.Shrinking.{settledClause, settledClauses, settledRule, settled};
+ghost use Rattle.steps.specs.Shrinking.{settledClause, settledClauses, settledRule};
 ghost use Rattle.boxes.specs.Looks.{PositionsFit, Atoms};
-ghost use Rattle.boxes.specs.Rooms.{SoundInput, fieldsIn, someRoom};
+ghost use Rattle.boxes.specs.Rooms.{SoundInput, someRoom};
+ghost use Rattle.boxes.specs.Promise.{Settles};
 use rules::field::Tag;
 use rules::field::atom_at;
 use rules::field::head_at;
@@ -20,7 +21,7 @@ use sets::Room;
 // Whether some position that the first so many bytes name has a room of which it is true, or not true,
 // as asked, that it lies inside the set.
 fn some_room(
-    rooms: &[u32; 64],
+    rooms: &[u32; Room::POSITIONS],
     positions: &[u8],
     count: usize,
     mask: u32,
@@ -43,7 +44,13 @@ fn some_room(
 }
 
 // Whether for every value of the set some named position has that value alone in its room.
-fn every_value_taken(rooms: &[u32; 64], positions: &[u8], count: usize, mask: u32, v: usize) -> bool
+fn every_value_taken(
+    rooms: &[u32; Room::POSITIONS],
+    positions: &[u8],
+    count: usize,
+    mask: u32,
+    v: usize,
+) -> bool
     requires { ⌜ (count ≤ length (now positions)) × (v ≤ 64) × PositionsFit v (take count (now positions)) ⌝ }
     ensures { λ r. ⌜ r ≡ settledClauses (take v (now (rooms .entry))) (map (λ x. map (atomIn (single x)) (take count (now (positions .entry)))) (values mask)) ⌝ }
 {
@@ -60,7 +67,7 @@ fn every_value_taken(rooms: &[u32; 64], positions: &[u8], count: usize, mask: u3
 }
 
 // Whether the equality that a content of so many bytes is, is settled.
-fn settled_equality(rooms: &[u32; 64], content: &[u8], len: usize, v: usize) -> bool
+fn settled_equality(rooms: &[u32; Room::POSITIONS], content: &[u8], len: usize, v: usize) -> bool
     requires { ⌜ (4 ≤ len) × (len ≤ length (now content)) × (v ≤ 64) × PositionsFit v (take (len - 4) (drop 4 (now content))) ⌝ }
     ensures { λ r. ⌜ r ≡ settledRule (take v (now (rooms .entry))) (ruleOf Equality len (now (content .entry))) ⌝ }
 {
@@ -74,11 +81,11 @@ fn settled_equality(rooms: &[u32; 64], content: &[u8], len: usize, v: usize) -> 
 
 // Whether the clause that a content of so many bytes is, is settled: from the last atom to the first it
 // unites the sets of each position, and is left at the first room that lies inside what is united.
-fn settled_united(rooms: &[u32; 64], content: &[u8], len: usize, v: usize) -> bool
+fn settled_united(rooms: &[u32; Room::POSITIONS], content: &[u8], len: usize, v: usize) -> bool
     requires { ⌜ Atoms v len (now content) ⌝ }
     ensures { λ r. ⌜ r ≡ settledClause (take v (now (rooms .entry))) (atomsOf (len / 5) (now (content .entry))) ⌝ }
 {
-    let mut united = [0u32; 64];
+    let mut united = [0u32; Room::POSITIONS];
     let mut left = len / 5;
     while left > 0 {
         left -= 1;
@@ -97,9 +104,9 @@ fn settled_united(rooms: &[u32; 64], content: &[u8], len: usize, v: usize) -> bo
 // Whether the box of the first v rooms is settled under the rules of a sound file: every clause has
 // a position whose room lies inside the union of its sets. Where the set of one atom shows it, the
 // field is left at once; the sets are united only where none does.
-pub fn settled(input: &[u8], v: usize, rooms: &[u32; 64]) -> bool
+pub fn settled(input: &[u8], v: usize, rooms: &[u32; Room::POSITIONS]) -> bool
     requires { ⌜ SoundInput (now input) v ⌝ }
-    ensures { λ r. ⌜ r ≡ settled (fieldsIn (now (input .entry))) (take v (now (rooms .entry))) ⌝ }
+    ensures { λ r. ⌜ Settles (now (input .entry)) v (now (rooms .entry)) r ⌝ }
 {
     let mut at = 5;
     'fields: while at < input.len() {

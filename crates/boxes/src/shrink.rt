@@ -1,17 +1,20 @@
 // Shrinking a box: rounds over all fields of a sound file, read from the input's own bytes, until
-// one changes nothing or finds a dead field. The contracts cite specs/Rooms.antt.
+// one changes nothing or finds a dead field. The contracts cite specs/Rooms.antt and
+// specs/Promise.antt.
 ghost use mathlib.Core.Path.{_≡_};
 ghost use Prim.Native.Nat.{ℕ, _+_, _≤_, _<_};
 ghost use lib.ListN.{length, take, drop};
 ghost use Rattle.rules.specs.Reading.{fieldFault, ruleAt};
 ghost use Rattle.steps.specs.Boxes.{Rooms};
-ghost use Rattle.steps.specs.Shrinking.{lookRule, round, sameRooms, shrunk};
+ghost use Rattle.steps.specs.Shrinking.{lookRule, round, sameRooms};
 ghost use Rattle.boxes.specs.Looks.{Looked};
-ghost use Rattle.boxes.specs.Rooms.{SoundInput, fieldsIn, Rounded, shrunkRooms};
+ghost use Rattle.boxes.specs.Rooms.{SoundInput, fieldsIn, Rounded};
+ghost use Rattle.boxes.specs.Promise.{Shrinks};
 use super::clause::look_atoms;
 use super::equality::look_equality;
 use rules::field::Tag;
 use rules::field::head_at;
+use sets::Room;
 
 // What shrinking finds: the box lives, or a field with this place is dead.
 pub enum Verdict {
@@ -22,11 +25,16 @@ pub enum Verdict {
 // The verdict, and the rooms of a box that lives.
 pub struct Shrunk {
     pub verdict: Verdict,
-    pub rooms: [u32; 64],
+    pub rooms: [u32; Room::POSITIONS],
 }
 
 // Looks at the field that starts at `at`: false where it is dead; else its cuts are made.
-pub(crate) fn look_field(input: &[u8], at: usize, v: usize, rooms: &mut [u32; 64]) -> bool
+pub(crate) fn look_field(
+    input: &[u8],
+    at: usize,
+    v: usize,
+    rooms: &mut [u32; Room::POSITIONS],
+) -> bool
     requires { ⌜ (at < length (now input)) × (v ≤ 64) × ((n : ℕ) × (fieldFault v n (drop at (now input)) ≡ 0)) ⌝ }
     ensures { λ r. ⌜ ((place : ℕ) → Looked (lookRule place (ruleAt (drop at (now (input .entry)))) (take v (now (rooms .entry)))) r (now (rooms .exit)) (drop v (now (rooms .entry)))) ⌝ }
 {
@@ -44,7 +52,7 @@ pub(crate) fn look_field(input: &[u8], at: usize, v: usize, rooms: &mut [u32; 64
 }
 
 // One round: looks at every field in the order of the file.
-pub(crate) fn look_round(input: &[u8], v: usize, rooms: &mut [u32; 64]) -> Verdict
+pub(crate) fn look_round(input: &[u8], v: usize, rooms: &mut [u32; Room::POSITIONS]) -> Verdict
     requires { ⌜ SoundInput (now input) v ⌝ }
     ensures { λ r. ⌜ Rounded (round (fieldsIn (now (input .entry))) (take v (now (rooms .entry)))) r (now (rooms .exit)) (drop v (now (rooms .entry))) ⌝ }
 {
@@ -59,7 +67,7 @@ pub(crate) fn look_round(input: &[u8], v: usize, rooms: &mut [u32; 64]) -> Verdi
 }
 
 // Whether the first v rooms of both are the same.
-pub(crate) fn same(a: &[u32; 64], b: &[u32; 64], v: usize) -> bool
+pub(crate) fn same(a: &[u32; Room::POSITIONS], b: &[u32; Room::POSITIONS], v: usize) -> bool
     requires { ⌜ v ≤ 64 ⌝ }
     ensures { λ r. ⌜ r ≡ sameRooms (take v (now (a .entry))) (take v (now (b .entry))) ⌝ }
 {
@@ -78,9 +86,9 @@ pub(crate) fn same(a: &[u32; 64], b: &[u32; 64], v: usize) -> bool
 
 // Shrinks the box of the first v rooms under the rules of a sound file: the rooms as they are where
 // nothing is left to cut, or the place of the field first found dead, with no rooms.
-pub fn shrink(input: &[u8], v: usize, rooms: [u32; 64]) -> Shrunk
+pub fn shrink(input: &[u8], v: usize, rooms: [u32; Room::POSITIONS]) -> Shrunk
     requires { ⌜ SoundInput (now input) v × Rooms (take v rooms) ⌝ }
-    ensures { λ r. ⌜ r ≡ shrunkRooms (shrunk (fieldsIn (now (input .entry))) (take v rooms)) (drop v rooms) ⌝ }
+    ensures { λ r. ⌜ Shrinks (now (input .entry)) v rooms r ⌝ }
 {
     let mut next = rooms;
     loop {
@@ -89,7 +97,7 @@ pub fn shrink(input: &[u8], v: usize, rooms: [u32; 64]) -> Shrunk
         if let Verdict::Dead(place) = verdict {
             return Shrunk {
                 verdict: Verdict::Dead(place),
-                rooms: [0u32; 64],
+                rooms: [0u32; Room::POSITIONS],
             };
         }
         if same(&next, &before, v) {

@@ -7,6 +7,7 @@ ghost use Rattle.lines.specs.Text.{firstLine, lineOf};
 ghost use Rattle.lines.specs.Printed.{Shown};
 use super::Text;
 use planner::plan::Reply;
+use sets::Room;
 
 // The line of a word and two numbers.
 fn first_line(word: &[u8], first: u64, second: u64) -> Text
@@ -17,7 +18,7 @@ fn first_line(word: &[u8], first: u64, second: u64) -> Text
 }
 
 // What the program prints for a reply, where the first v values are a plan's.
-pub fn text(reply: Reply, values: &[u8; 64], v: usize) -> Text
+pub fn text(reply: Reply, values: &[u8; Room::POSITIONS], v: usize) -> Text
     ensures { λ r. ⌜ Shown reply (now (values .entry)) v r ⌝ }
 {
     match reply {

@@ -28,15 +28,15 @@ pub enum Reply {
 }
 
 // The rooms at the start: {1..n} everywhere.
-fn start_rooms(n: u32) -> [u32; 64]
+fn start_rooms(n: u32) -> [u32; Room::POSITIONS]
     ensures { λ r. ⌜ r ≡ replicate 64 (full n) ⌝ }
 {
     let mask = Room::full(n).mask;
-    [mask; 64]
+    [mask; Room::POSITIONS]
 }
 
 // Writes the first v values to the front of the buffer.
-fn write_values(answer: &mut [u8], values: &[u32; 64], v: usize)
+fn write_values(answer: &mut [u8], values: &[u32; Room::POSITIONS], v: usize)
     requires { ⌜ (v ≤ 64) × (64 ≤ length (now answer)) × Every (λ x. x < 256) (take v (now values)) ⌝ }
     ensures { λ _. ⌜ now (answer .exit) ≡ take v (now (values .entry)) ++ drop v (now (answer .entry)) ⌝ }
 {
@@ -82,7 +82,7 @@ pub fn plan(input: &[u8], answer: &mut [u8], allowance: u64) -> Reply
             place: 0,
         };
     }
-    if answer.len() < 64 {
+    if answer.len() < Room::POSITIONS {
         return Reply::Refused {
             number: 11,
             place: 0,

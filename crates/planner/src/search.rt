@@ -14,6 +14,7 @@ use boxes::choose::smallest_values;
 use boxes::settle::settled;
 use boxes::shrink::Verdict;
 use boxes::shrink::shrink;
+use sets::Room;
 
 // What a search answers.
 pub enum Answer {
@@ -26,7 +27,7 @@ pub enum Answer {
 // The answer, the values of a plan (0 for every other answer), the splits and the dead ends.
 pub struct Found {
     pub answer: Answer,
-    pub values: [u32; 64],
+    pub values: [u32; Room::POSITIONS],
     pub splits: u64,
     pub dead_ends: u64,
 }
@@ -37,7 +38,7 @@ pub(crate) fn without_plan(answer: Answer, splits: u64, dead_ends: u64) -> Found
 {
     Found {
         answer,
-        values: [0u32; 64],
+        values: [0u32; Room::POSITIONS],
         splits,
         dead_ends,
     }
@@ -51,7 +52,7 @@ pub(crate) fn search(
     input: &[u8],
     v: usize,
     allowed: u64,
-    rooms: [u32; 64],
+    rooms: [u32; Room::POSITIONS],
     splits: u64,
     dead_ends: u64,
 ) -> Found

@@ -5,3 +5,4 @@ pub mod Checked
 pub mod Meaning
 pub mod Clauses
 pub mod Writing
+pub mod Promise

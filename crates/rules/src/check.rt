@@ -1,5 +1,6 @@
 // Whether the bytes are a sound file: walks the fields, and refuses at the first fault with 01's
-// number and the field's place. The contracts cite specs/Reading.antt and specs/Checked.antt.
+// number and the field's place. The contracts cite specs/Reading.antt, specs/Checked.antt and
+// specs/Promise.antt.
 ghost use mathlib.Core.Path.{_≡_};
 ghost use mathlib.Core.Bool.{true, _&&_};
 ghost use lib.Dec.{leb};
@@ -7,6 +8,7 @@ ghost use Prim.Native.Nat.{_+_, _*_, _≤_};
 ghost use lib.ListN.{length, take, drop};
 ghost use Rattle.rules.specs.Reading.{orElse, atomsOf, ruleOf, lengthFits, positionFault, setFault, atomFault, atomsFault, positionsFault, ruleFault, fieldFault, headerFault, readFields, reading};
 ghost use Rattle.rules.specs.Checked.{tagFault, bodyFault, headerBodyFault, checkedOf};
+ghost use Rattle.rules.specs.Promise.{Checks};
 use super::field::Atom;
 use super::field::Tag;
 use super::field::atom_at;
@@ -20,6 +22,9 @@ pub enum Checked {
     Sound { positions: u32, values: u32 },
     Refused { number: u32, place: usize },
 }
+
+// The largest number of positions, as wide as a byte of the header is read.
+const POSITIONS: u32 = Room::POSITIONS as u32;
 
 // Whether a number is 1 to high.
 fn within(high: u32, x: u32) -> bool
@@ -182,10 +187,10 @@ fn header_body_fault(input: &[u8], len: usize) -> u32
     if input.len() < 5 {
         return 13;
     }
-    if !within(64, input[3] as u32) {
+    if !within(POSITIONS, input[3] as u32) {
         return 18;
     }
-    if !within(32, input[4] as u32) {
+    if !within(Room::VALUES, input[4] as u32) {
         return 18;
     }
     0
@@ -236,7 +241,7 @@ fn check_fields(input: &[u8], v: u32, n: u32) -> Checked
 // Whether the input is a sound file, for every input: its number of positions and of values, or
 // the first fault in 01's order of tests with the place of its field.
 pub fn check(input: &[u8]) -> Checked
-    ensures { λ r. ⌜ r ≡ checkedOf (reading (now (input .entry))) ⌝ }
+    ensures { λ r. ⌜ Checks (now (input .entry)) r ⌝ }
 {
     let fault = header_fault(input);
     if fault != 0 {

@@ -1,9 +1,10 @@
 // What the bytes of one field say: its tag, its length, its atoms, its set and its positions.
-// The contracts cite specs/Reading.antt.
+// The contracts cite specs/Promise.antt, which goes by specs/Reading.antt.
 ghost use mathlib.Core.Path.{_≡_};
 ghost use Prim.Native.Nat.{_+_, _≤_, _<_};
-ghost use lib.ListN.{length, drop};
-ghost use Rattle.rules.specs.Reading.{tagOf, lengthAt, setAt, atomOf, headOf};
+ghost use lib.ListN.{length};
+ghost use Rattle.rules.specs.Reading.{lengthAt};
+ghost use Rattle.rules.specs.Promise.{TagOf, SetAt, AtomAt, HeadAt};
 
 // The kinds of field that a tag byte can announce.
 pub enum Tag {
@@ -27,7 +28,7 @@ pub struct Head {
 
 // The decision over the tag byte. Tags 1, 2 and 3 are known.
 pub fn tag_of(tag: u8) -> Tag
-    ensures { λ r. ⌜ r ≡ tagOf tag ⌝ }
+    ensures { λ r. ⌜ TagOf tag r ⌝ }
 {
     match tag {
         1 => Tag::Header,
@@ -50,7 +51,7 @@ fn two_at(bytes: &[u8], at: usize) -> u32
 // The four bytes from `at` on as a set, high byte first.
 pub fn set_at(bytes: &[u8], at: usize) -> u32
     requires { ⌜ at + 4 ≤ length (now bytes) ⌝ }
-    ensures { λ r. ⌜ r ≡ setAt (now (bytes .entry)) at ⌝ }
+    ensures { λ r. ⌜ SetAt (now (bytes .entry)) at r ⌝ }
 {
     two_at(bytes, at) * 65536 + two_at(bytes, at + 2)
 }
@@ -58,7 +59,7 @@ pub fn set_at(bytes: &[u8], at: usize) -> u32
 // The five bytes from `at` on as an atom: a position byte, then its set.
 pub fn atom_at(bytes: &[u8], at: usize) -> Atom
     requires { ⌜ at + 5 ≤ length (now bytes) ⌝ }
-    ensures { λ r. ⌜ r ≡ atomOf (drop at (now (bytes .entry))) ⌝ }
+    ensures { λ r. ⌜ AtomAt (now (bytes .entry)) at r ⌝ }
 {
     let position = bytes[at] as u32;
     let set = set_at(bytes, at + 1);
@@ -68,7 +69,7 @@ pub fn atom_at(bytes: &[u8], at: usize) -> Atom
 // The head of the field that starts at `at`.
 pub fn head_at(bytes: &[u8], at: usize) -> Head
     requires { ⌜ at + 3 ≤ length (now bytes) ⌝ }
-    ensures { λ r. ⌜ r ≡ headOf (drop at (now (bytes .entry))) ⌝ }
+    ensures { λ r. ⌜ HeadAt (now (bytes .entry)) at r ⌝ }
 {
     let kind = tag_of(bytes[at]);
     let length = two_at(bytes, at + 1) as usize;

@@ -10,7 +10,7 @@ use native.Mathlib.Omega.{arith}
 use lib.Arith.{lt-one}
 use lib.Count.{trailingZeros, under}
 use lib.Dec.{T}
-use Rattle.sets.specs.Sets.{member, single, inside, listedIf, valuesFrom, values, rising, count, firstOf, smallest, others}
+use Rattle.sets.specs.Sets.{member, single, common, complement, inside, listedIf, valuesFrom, values, rising, count, firstOf, smallest, beside, others}
 use Rattle.sets.proofs.Digits.{half-below}
 use Rattle.sets.proofs.Members.{member-range, member-single}
 use Rattle.sets.proofs.Sameness.{single-below, inside-iff}
@@ -100,6 +100,11 @@ count-one m h = (forth, λ s. ap count (s .3) ∙ count-of-single (s .0) (s .1) 
 pub others-below : (m : ℕ) → m < 2 ^ 32 → others m < 2 ^ 32
 unfolding others
 others-below m h = beside-below (single (smallest m)) m h
+
+-- the others, as they are computed: what the set shares with the complement of its smallest value
+pub others-computed : (m one beyond rest : ℕ) → one ≡ single (smallest m) → beyond ≡ complement 32 one → rest ≡ common m beyond → rest ≡ others m
+unfolding others beside
+others-computed m one beyond rest e f g = g ∙ ap (common m) (f ∙ ap (complement 32) e)
 
 -- the others are the members that are not the smallest
 pub member-others : (m x : ℕ) → m < 2 ^ 32 → (m ≡ 0 → ⊥) → member x (others m) ↔ (member x m × (x ≡ smallest m → ⊥))

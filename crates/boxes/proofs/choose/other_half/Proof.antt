@@ -3,7 +3,8 @@ use mathlib.Core.Path.{ap, _∙_}
 use Prim.Native.Nat.{ℕ}
 use lib.ListN.{getD, set}
 use borrow.Author.Needs.{needs}
-use Rattle.sets.specs.Sets.{single, common, complement, beside, others}
+use Rattle.sets.specs.Sets.{single}
+use Rattle.sets.proofs.Smallest.{others-computed}
 use Rattle.steps.specs.Boxes.{otherHalf}
 use Rattle.boxes.proofs.choose.other_half.Statement.{statement}
 use Rattle.boxes.proofs.choose.other_half.Tie as tie
@@ -33,12 +34,11 @@ array-write-half : tie.Need-array-write-half
 array-write-half c = search needs
 
 returns : tie.Need-returns
-unfolding otherHalf others beside
+unfolding otherHalf
 returns c =
     let a = c .before .before .before .before .args in
     let one = c .before .before .single .ensures .result ∙ ap single (c .before .before .before .smallest .ensures .result) in
-    ap (λ (room : ℕ). set (a .t1) (a .i) room)
-    (c .common .ensures .result ∙ ap (common (getD (a .t1) (a .i) 0)) (c .before .complement .ensures .result ∙ ap (complement 32) one))
+    ap (λ (room : ℕ). set (a .t1) (a .i) room) (others-computed (getD (a .t1) (a .i) 0) _ _ _ one (c .before .complement .ensures .result) (c .common .ensures .result))
 
 pub other-half-spec : {M : Type 1} → statement M
 other-half-spec =

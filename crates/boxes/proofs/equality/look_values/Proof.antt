@@ -11,7 +11,8 @@ use Rattle.rules.specs.Clauses.{atomIn}
 use Rattle.steps.specs.Shrinking.{lookClauses}
 use Rattle.boxes.specs.Looks.{Looked}
 use Rattle.boxes.proofs.LooksInTurn.{LeftToLook, left-all, left-dead, left-then, left-none}
-use Rattle.boxes.proofs.EqualityLooks.{others-computed, next-value, no-value}
+use Rattle.sets.proofs.Smallest.{others-computed}
+use Rattle.boxes.proofs.EqualityLooks.{next-value, no-value}
 use Rattle.boxes.proofs.equality.look_values.Statement.{statement}
 use Rattle.boxes.proofs.equality.look_values.Tie as tie
 

@@ -7,7 +7,7 @@ use lib.ListN.{take}
 use borrow.Author.Tests.{not-true, not-false}
 use Rattle.sets.specs.Sets.{single, common, complement, smallest, others}
 use Rattle.sets.proofs.Smallest.{others-below, count-others}
-use Rattle.boxes.proofs.EqualityLooks.{others-computed}
+use Rattle.sets.proofs.Smallest.{others-computed}
 use Rattle.boxes.proofs.SettledEqualities.{valuesSettled, values-settled-none, values-settled-on}
 use Rattle.boxes.proofs.TestsInARow.{all-fail, all-on}
 use Rattle.boxes.proofs.settle.every_value_taken.Statement.{statement}
