@@ -1,5 +1,6 @@
 # Makes the stored output of `bench_examples`: 01's examples and the ceilings, with the replies of the model. 01's
-# "bytes from v on stay; all other replies write nothing" is the word `kept` at the end of each line.
+# "bytes from v on stay; all other replies write nothing" is the word `kept` at the end of each line. Behind the line
+# of a call stands what the program prints for the file.
 import scope
 from writing import clause, equality, field, header
 
@@ -13,6 +14,7 @@ LONGEST = header(1, 32) + field(2, bytes([1] * 5 * 6552))
 def show(name, file, allowance=1000000, lent=70):
     number, place, splits, dead_ends, values = scope.reply(file, lent, allowance)
     print(name, number, place, splits, dead_ends, *values, 'kept')
+    print(scope.printed(file), end='')
 
 
 # The starred cases.

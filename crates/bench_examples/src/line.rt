@@ -1,9 +1,11 @@
-// The line that is printed for one call of `plan`.
+// What is shown of one file: the line of a call of `plan`, and what the program prints for the file.
 ghost use Prim.Native.Nat.{_≤_};
 ghost use lib.ListN.{length};
 use libc::STDOUT_FILENO;
+use lines::answer::answer;
 use planner::plan::Reply;
 use planner::plan::plan;
+use streams::put;
 
 // Calls `plan` with a buffer of 70 bytes and prints the line, which starts with the name. The file
 // has v positions; v is 0 where it has no header that is read.
@@ -27,6 +29,15 @@ pub(crate) fn show_lent(name: &[u8], input: &[u8], lent: usize, allowance: u64, 
     } else {
         io::write_all(STDOUT_FILENO, b" touched\n");
     }
+    printed(input);
+}
+
+// What the program prints for a file, by the function that it calls.
+fn printed(input: &[u8]) {
+    let text = answer(input);
+    let bytes = text.bytes;
+    let len = text.len;
+    put(STDOUT_FILENO, &bytes, len);
 }
 
 // What `plan` replies where so many bytes of the buffer are lent to it.

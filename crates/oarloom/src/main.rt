@@ -1,31 +1,45 @@
-// The program: reads a file of rules from standard input, allows 100,000 splits, and prints the
-// reply. What it replies and what it prints are computed by `planner` and `lines`, which are proved.
+// The program: takes a file of rules from standard input, prints the reply with 100,000 splits allowed,
+// and says on standard error why a file is refused. What is printed is computed from the bytes that were
+// read by `answer` and `reason` of `lines`, which are proved. Where a read or the write of the reply fails,
+// one line on standard error says so; where a read failed nothing is printed.
+use libc::STDERR_FILENO;
 use libc::STDIN_FILENO;
 use libc::STDOUT_FILENO;
-use lines::reply::text;
-use planner::plan::plan;
+use lines::answer::answer;
+use lines::reason::reason;
+use streams::Taken;
+use streams::put;
+use streams::take_whole;
 
-// A byte as a number.
-fn wide(b: u8) -> usize {
-    b as usize
+// Says why the input is refused, where it is.
+fn explain(input: &[u8]) {
+    let why = reason(input);
+    let bytes = why.bytes;
+    let len = why.len;
+    if 0 < len {
+        io::write_all(STDERR_FILENO, b"oarloom: ");
+        put(STDERR_FILENO, &bytes, len);
+    }
 }
 
-// Prints the first so many bytes.
-fn print(bytes: &[u8], len: usize) {
-    if len <= bytes.len() {
-        io::write_all(STDOUT_FILENO, &bytes[..len]);
+// Prints the reply to an input.
+fn reply_to(input: &[u8]) {
+    let printed = answer(input);
+    let bytes = printed.bytes;
+    let len = printed.len;
+    if put(STDOUT_FILENO, &bytes, len) {
+        explain(input);
+    } else {
+        os::fail(b"oarloom: standard output");
     }
 }
 
 fn main() {
-    // Twice as much as a file may have, so that a longer one is known to be too long.
-    let mut input = io::large_buffer();
-    let n = io::read_full(STDIN_FILENO, &mut input);
-    let mut answer = [0u8; 64];
-    let reply = plan(&input[..n], &mut answer, 100000);
-    let v = wide(input[3]);
-    let printed = text(reply, &answer, v);
-    let bytes = printed.bytes;
-    let len = printed.len;
-    print(&bytes, len);
+    // One byte more than a file may have, so that a longer one is known to be too long.
+    let mut input = [0u8; 32769];
+    match take_whole(STDIN_FILENO, &mut input) {
+        Taken::Whole(n) => reply_to(&input[..n]),
+        Taken::TooLong => reply_to(&input),
+        Taken::Failed => os::fail(b"oarloom: standard input"),
+    }
 }
