@@ -1,5 +1,7 @@
 # Makes the expected output of `small_files` from 01's text alone: the same files by the same generator, and a
 # model of the refusals, of the meaning and of the search on Python's sets of values.
+#
+# Every call of the planner that the program makes is made here too, in the same order.
 import sys
 from itertools import product
 
@@ -147,6 +149,7 @@ def clauses(rules):
 
 class Stop(Exception): pass
 class Search:
+    place = 0
     def __init__(self, v, n, rules, allowed):
         self.v, self.cs, self.allowed, self.splits, self.dead = v, clauses(rules), allowed, 0, 0
         try:
@@ -171,26 +174,36 @@ class Search:
         low = min(rooms[i])
         return self.box(rooms[:i] + [frozenset([low])] + rooms[i + 1:]) or self.box(rooms[:i] + [rooms[i] - {low}] + rooms[i + 1:])
 
+# ---- 01, "Replies": the reply to one call of the planner
+class Refused:
+    plan, splits, dead = None, 0, 0
+    def __init__(self, number, place): self.number, self.place = number, place
+
+MOST = 1000000
+def plan(file, length, allowance):
+    if len(file) > 32768: return Refused(10, 0)
+    if length < 64: return Refused(11, 0)
+    if allowance > MOST: return Refused(12, 0)
+    r = read(file)
+    return Refused(*r[1:]) if r[0] == 'refused' else Search(*r[1:], allowance)
+
 # ---- the program's counts
 T = dict.fromkeys([0, 1, 2] + list(range(10, 22)) + ['files', 'damaged', 'splits', 'dead', 'places', 'comparisons'], 0)
 hist = {}
 
-def reply(number, place=0, splits=0, dead=0):
-    T[number] += 1; T['splits'] += splits; T['dead'] += dead; T['places'] += place; T['comparisons'] += 1
-
-def ask(v, n, rules, allowance):
-    s = Search(v, n, rules, allowance)
-    reply(s.number, 0, s.splits, s.dead)
+def ask(file, length=64, allowance=MOST):
+    s = plan(file, length, allowance)
+    T[s.number] += 1; T['splits'] += s.splits; T['dead'] += s.dead; T['places'] += s.place; T['comparisons'] += 1
     return s
 
 def judge(file, origin=False):
     r = read(file)
     if r[0] == 'refused':
         assert not origin
-        reply(r[1], r[2]); return None
+        return ask(file)
     _, v, n, rules = r
     many = n ** v > 4096
-    s = ask(v, n, rules, 30 if many else 1000000)
+    s = ask(file, 64, 30 if many else MOST)
     if not many:
         a = first(v, n, rules)
         assert (s.number, s.plan) == ((1, None) if a is None else (0, a)), file
@@ -200,22 +213,24 @@ def judge(file, origin=False):
     elif STATS: hist['many', s.number] = hist.get(('many', s.number), 0) + 1
     if s.number == 1: assert s.dead == s.splits + 1
     if s.number == 0: assert s.dead <= s.splits
-    return (v, n, rules, s)
+    return s
 
 def one(src, file, number):
     T['files'] += 1; T['comparisons'] += 1
     assert len(file) < 256
-    v, n, rules, full = judge(file, True)
+    full = judge(file, True)
     same = lambda s: (s.number, s.plan, s.splits, s.dead) == (full.number, full.plan, full.splits, full.dead)
     for a in range(0, min(full.splits, 99) + 2):
-        s = ask(v, n, rules, a)
+        s = ask(file, 64, a)
         assert (s.number == 2 and s.splits == a and s.dead <= a) if a < full.splits else same(s)
     if number % 100 == 0:
         judge(file, True)
         for length in range(60, 69):
-            if length < 64: reply(11)
-            else: reply(full.number, 0, full.splits, full.dead)
-        assert same(ask(v, n, rules, 999999)); reply(12); reply(12)
+            s = ask(file, length)
+            assert s.number == 11 if length < 64 else same(s)
+        for a in (MOST - 1, MOST + 1, 2 ** 64 - 1):
+            s = ask(file, 64, a)
+            assert s.number == 12 if a > MOST else same(s)
         damaged(src, file)
 
 def damaged(src, file):
@@ -232,7 +247,8 @@ src = Source(20251)
 for family, size in enumerate(SIZES):
     for k in range(size):
         one(src, systematic(family, k) if family < 6 else drawn(family, src), k)
-reply(10); reply(10); reply(11); reply(12)
+long = bytes([1]) * 32769
+for file, length, allowance in [(long, 64, MOST), (long, 63, MOST + 1), (b'', 63, MOST + 1), (b'', 64, MOST + 1)]: ask(file, length, allowance)
 for v, n in [(1, 1), (64, 32), (65, 32), (64, 33), (0, 1), (1, 0)]: judge(header(v, n))
 judge(header(64, 1) + field(3, bytes([0, 0, 0, 1] + [1] * 64))); judge(header(64, 1) + field(3, bytes([0, 0, 0, 1] + [1] * 65)))
 print('files', T['files']); print('damaged files', T['damaged'])
