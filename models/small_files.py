@@ -1,7 +1,9 @@
 # Makes the expected output of `small_files` from 01's text alone: the same files by the same generator, and a
 # model of the refusals, of the meaning and of the search on Python's sets of values.
 #
-# Every call of the planner that the program makes is made here too, in the same order.
+# Every call of the planner that the program makes is made here too, in the same order, and the number, the place,
+# the splits and the dead ends of each go into the checksum one by one. So the calls are compared one for one, and
+# not by their totals alone, in which two errors could cancel.
 import sys
 from itertools import product
 
@@ -188,12 +190,13 @@ def plan(file, length, allowance):
     return Refused(*r[1:]) if r[0] == 'refused' else Search(*r[1:], allowance)
 
 # ---- the program's counts
-T = dict.fromkeys([0, 1, 2] + list(range(10, 22)) + ['files', 'damaged', 'splits', 'dead', 'places', 'comparisons'], 0)
+T = dict.fromkeys([0, 1, 2] + list(range(10, 22)) + ['files', 'damaged', 'splits', 'dead', 'places', 'checksum', 'comparisons'], 0)
 hist = {}
 
 def ask(file, length=64, allowance=MOST):
     s = plan(file, length, allowance)
     T[s.number] += 1; T['splits'] += s.splits; T['dead'] += s.dead; T['places'] += s.place; T['comparisons'] += 1
+    for x in (s.number, s.place, s.splits, s.dead): T['checksum'] = (T['checksum'] * 1000003 + x + 1) % 4294967296
     return s
 
 def judge(file, origin=False):
@@ -256,6 +259,6 @@ print('PLAN', T[0]); print('NONE', T[1]); print('UNDECIDED', T[2])
 for i in range(10, 21): print('refused, %d: %d' % (i, T[i]))
 print('stalled, 21:', T[21])
 print('splits', T['splits']); print('dead ends', T['dead']); print('places', T['places'])
-print('comparisons', T['comparisons']); print('differences 0')
+print('checksum', T['checksum']); print('comparisons', T['comparisons']); print('differences 0')
 if STATS:
     for k in sorted(hist, key=str): print(k, hist[k], file=sys.stderr)

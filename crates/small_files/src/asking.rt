@@ -14,18 +14,29 @@ pub struct Seen {
     pub bytes: [u8; 68],
 }
 
-// Calls the planner with an answer buffer of a length and an allowance, and counts the reply.
+// Calls the planner with an answer buffer of a length and an allowance, and counts the reply. The
+// program calls the planner nowhere else, so that no reply is left out.
 pub(crate) fn ask(tally: &mut [u64; 32], file: &[u8], length: usize, allowance: u64) -> Seen
     requires { ⌜ length ≤ 68 ⌝ }
 {
     let mut bytes = [BLANK; 68];
     let reply = plan(file, &mut bytes[..length], allowance);
     let seen = seen_as(reply, bytes);
+    count(tally, seen);
+    seen
+}
+
+// Counts a reply: its number, the sums, and all four numbers in the checksum.
+fn count(tally: &mut [u64; 32], seen: Seen) {
+    let place = seen.place as u64;
     tally::add(tally, seen.number, 1);
     tally::add(tally, tally::SPLITS, seen.splits);
     tally::add(tally, tally::DEAD_ENDS, seen.dead_ends);
-    tally::add(tally, tally::PLACES, seen.place as u64);
-    seen
+    tally::add(tally, tally::PLACES, place);
+    tally::append(tally, seen.number as u64);
+    tally::append(tally, place);
+    tally::append(tally, seen.splits);
+    tally::append(tally, seen.dead_ends);
 }
 
 // A reply as numbers.

@@ -18,12 +18,27 @@ pub const PLACES: usize = 26;
 pub const COMPARISONS: usize = 27;
 // Comparisons that showed a difference.
 pub const DIFFERENCES: usize = 28;
+// The checksum of the four numbers of every reply, in the order of the calls.
+pub const CHECKSUM: usize = 29;
+
+// The checksum is kept below this.
+const MODULUS: u64 = 4_294_967_296;
+// What the checksum is multiplied by before a number is added. It is odd, so that no number that
+// differs is lost again behind it.
+const FACTOR: u64 = 1_000_003;
 
 // Adds to a count. A place that is none of the 32 changes nothing.
 pub(crate) fn add(tally: &mut [u64; 32], place: usize, more: u64) {
     if place < 32 {
         tally[place] = std::num::wrapping_add_u64(tally[place], more);
     }
+}
+
+// Takes one number more into the checksum, behind all that were taken before. By the 1 a number 0
+// counts too.
+pub(crate) fn append(tally: &mut [u64; 32], number: u64) {
+    let sum = tally[CHECKSUM] % MODULUS;
+    tally[CHECKSUM] = (sum * FACTOR + number % MODULUS + 1) % MODULUS;
 }
 
 // Counts a comparison, and a difference where it did not hold. The bytes of the first file with a
@@ -53,6 +68,7 @@ pub(crate) fn print(tally: &[u64; 32]) {
     line(b"splits ", tally[SPLITS]);
     line(b"dead ends ", tally[DEAD_ENDS]);
     line(b"places ", tally[PLACES]);
+    line(b"checksum ", tally[CHECKSUM]);
     line(b"comparisons ", tally[COMPARISONS]);
     line(b"differences ", tally[DIFFERENCES]);
 }

@@ -18,17 +18,8 @@ plan-requires c κs = search needs
 seen-as-requires : tie.Need-seen-as-requires
 seen-as-requires c κs = search needs
 
-add-requires : tie.Need-add-requires
-add-requires c κs = search needs
-
-add-requires-2 : tie.Need-add-requires-2
-add-requires-2 c κs = search needs
-
-add-requires-3 : tie.Need-add-requires-3
-add-requires-3 c κs = search needs
-
-add-requires-4 : tie.Need-add-requires-4
-add-requires-4 c κs = search needs
+count-requires : tie.Need-count-requires
+count-requires c κs = search needs
 
 returns : tie.Need-returns
 returns c = search needs
@@ -41,8 +32,5 @@ ask-spec =
     slice-aggregate-plan
     plan-requires
     seen-as-requires
-    add-requires
-    add-requires-2
-    add-requires-3
-    add-requires-4
+    count-requires
     returns)
