@@ -4,17 +4,19 @@ use mathlib.Core.Bool.{Bool, true, false}
 use mathlib.Core.List.{List, _++_}
 use Prim.Native.Nat.{ℕ, suc, _+_, _-_, _≤_, _<_}
 use native.Mathlib.Omega.{arith}
-use lib.ListN.{length, set, take, drop, replicate, length-map}
+use lib.ListN.{length, getD, set, take, drop, replicate, length-map}
 use lib.Seq.{take-at, take-set-lt, getD-take, length-take-le}
 use borrow.Author.Tests.{le-leb, lt-leb}
-use Rattle.sets.specs.Sets.{single, smallest, others}
+use Rattle.sets.specs.Sets.{single, count, smallest, others}
+use Rattle.sets.proofs.Counting.{count-inside}
 use Rattle.rules.specs.Rules.{Field}
-use Rattle.steps.specs.Boxes.{openValues, Rooms, smallestOf, firstHalf, otherHalf}
+use Rattle.steps.specs.Boxes.{openValues, BoxInside, Rooms, smallestOf, firstHalf, otherHalf}
 use lib.Dec.{leb}
 use Rattle.steps.specs.Shrinking.{Look, dead, alive, ifTest, shrunk, settled}
 use Rattle.steps.specs.Search as spec
 use Rattle.steps.specs.Search.{undecided, Outcome, outcome, chosen, ifNone, search}
-use Rattle.steps.proofs.BoxLaws.{box-inside-length}
+use Rattle.steps.proofs.BoxLaws.{box-inside-length, box-inside-at, rooms-at}
+use Rattle.steps.proofs.BoxSizes.{open-inside, first-half-rooms, other-half-rooms, first-half-falls, other-half-falls}
 use Rattle.steps.proofs.Counts.{search-counts}
 use Rattle.steps.proofs.Depth.{search-enough}
 use Rattle.steps.proofs.SearchCases.{Case, dies, settles, stalls, divides, firstPart, otherPart, searchIn, search-case, Parts, parts-of}
@@ -126,9 +128,9 @@ module _ (given : Given) where
   by-case c = search-case fields (openValues (take v rooms)) allowed s d (take v rooms) c
 
   pub ends-dead : (place : ℕ) → shrunk fields (take v rooms) ≡ dead place
-      → record { answer = None; values = replicate 64 0; splits = s; «dead_ends» = d + 1 } ≡ foundOf whole
+      → {r : Found} → r ≡ record { answer = None; values = replicate 64 0; splits = s; «dead_ends» = d + 1 } → r ≡ foundOf whole
   unfolding foundOf outcome answerOf valuesIn
-  ends-dead place e = sym (ap foundOf (by-case (dies place e)))
+  ends-dead place e q = q ∙ sym (ap foundOf (by-case (dies place e)))
 
   pub ends-settled : {saved : List ℕ} → Saved saved → (values : List ℕ) → settled fields (take v saved) ≡ true → values ≡ smallestOf (take v saved) ++ replicate (64 - v) 0
       → record { answer = Plan; values = values; splits = s; «dead_ends» = d } ≡ foundOf whole
@@ -138,9 +140,9 @@ module _ (given : Given) where
       ∙ sym (ap foundOf (by-case (settles (take v saved) (kept .shrank) t)))
 
   pub ends-stalled : {saved : List ℕ} → Saved saved → (i : ℕ) → settled fields (take v saved) ≡ false → i ≡ chosen (take v saved) → v ≤ i
-      → record { answer = Stalled; values = replicate 64 0; splits = s; «dead_ends» = d } ≡ foundOf whole
+      → {r : Found} → r ≡ record { answer = Stalled; values = replicate 64 0; splits = s; «dead_ends» = d } → r ≡ foundOf whole
   unfolding foundOf outcome answerOf valuesIn
-  ends-stalled {saved} kept i u e l = let same = kept .length-v in sym (ap foundOf (by-case (stalls (take v saved) (kept .shrank) u (omega arith))))
+  ends-stalled {saved} kept i u e l q = let same = kept .length-v in q ∙ sym (ap foundOf (by-case (stalls (take v saved) (kept .shrank) u (omega arith))))
 
   -- ---- a box that is split at an index
 
@@ -170,9 +172,9 @@ module _ (given : Given) where
         by-case (divides (take v saved) (split .kept .shrank) (split .unsettled) divided)
         ∙ ap (λ (u : Bool). ifTest u (outcome undecided s d) (λ _. ifNone (begun .answer) begun later)) e
 
-    pub ends-undecided : allowed ≤ s → record { answer = Undecided; values = replicate 64 0; splits = s; «dead_ends» = d } ≡ foundOf whole
+    pub ends-undecided : allowed ≤ s → {r : Found} → r ≡ record { answer = Undecided; values = replicate 64 0; splits = s; «dead_ends» = d } → r ≡ foundOf whole
     unfolding foundOf outcome answerOf valuesIn
-    ends-undecided l = sym (ap foundOf (by-test true (le-leb allowed s l)))
+    ends-undecided l q = q ∙ sym (ap foundOf (by-test true (le-leb allowed s l)))
 
     first-same : take v (firstHalf i saved) ≡ firstPart (take v saved)
     first-same = first-front saved i (split .there) ∙ ap (λ (j : ℕ). firstHalf j (take v saved)) (split .at)
@@ -192,8 +194,10 @@ module _ (given : Given) where
         (parts .otherRooms) (omega arith) (parts .otherFalls)
 
     -- what the code found in the first part is what the search finds there
-    pub first-found : (r : Found) → r ≡ foundOf (search (suc (openValues (take v (firstHalf i saved)))) fields allowed (take v (firstHalf i saved)) (s + 1) d) → r ≡ foundOf begun
-    first-found r e = e ∙ ap (λ (half : List ℕ). foundOf (search (suc (openValues half)) fields allowed half (s + 1) d)) first-same ∙ ap foundOf begun-enough
+    pub first-found : {half : List ℕ} → half ≡ firstHalf i saved
+        → {r : Found} → r ≡ foundOf (search (suc (openValues (take v half))) fields allowed (take v half) (s + 1) d) → r ≡ foundOf begun
+    first-found {half} made e =
+        e ∙ ap (λ (part : List ℕ). foundOf (search (suc (openValues part)) fields allowed part (s + 1) d)) (ap (take v) made ∙ first-same) ∙ ap foundOf begun-enough
 
     -- an answer of the first part that is not NONE is the answer
     pub ends-first : (r : Found) → r ≡ foundOf begun → s < allowed → (r .answer ≡ None → ⊥) → r ≡ foundOf whole
@@ -202,36 +206,65 @@ module _ (given : Given) where
         e ∙ ap foundOf (sym (by-test false (lt-leb allowed s h) ∙ stays (begun .answer) begun later (λ n. ne (ap (λ (f : Found). f .answer) e ∙ n))))
 
     -- where it is NONE the other part's answer is
-    pub ends-second : (r q : Found) → r ≡ foundOf begun → s < allowed → r .answer ≡ None
-        → q ≡ foundOf (search (suc (openValues (take v (otherHalf i saved)))) fields allowed (take v (otherHalf i saved)) (r .splits) (r .«dead_ends»)) → q ≡ foundOf whole
+    pub ends-second : (r : Found) → r ≡ foundOf begun → s < allowed → r .answer ≡ None → {half : List ℕ} → half ≡ otherHalf i saved
+        → {q : Found} → q ≡ foundOf (search (suc (openValues (take v half))) fields allowed (take v half) (r .splits) (r .«dead_ends»)) → q ≡ foundOf whole
     unfolding foundOf
-    ends-second r q e h n f =
-        f ∙ ap (λ (half : List ℕ). foundOf (search (suc (openValues half)) fields allowed half (r .splits) (r .«dead_ends»))) other-same
+    ends-second r e h n made f =
+        f ∙ ap (λ (part : List ℕ). foundOf (search (suc (openValues part)) fields allowed part (r .splits) (r .«dead_ends»))) (ap (take v) made ∙ other-same)
         ∙ ap foundOf (later-enough (r .splits) (r .«dead_ends»))
         ∙ ap₂ (λ (t u : ℕ). foundOf (later t u)) (ap (λ (g : Found). g .splits) e) (ap (λ (g : Found). g .«dead_ends») e)
         ∙ ap foundOf (sym (by-test false (lt-leb allowed s h) ∙ goes-on (begun .answer) begun later (sym (ap (λ (g : Found). g .answer) e) ∙ n)))
 
     -- ---- what the calls ask
 
-    pub first-rooms : Rooms (take v (firstHalf i saved))
-    first-rooms = subst Rooms (sym first-same) (parts .firstRooms)
+    -- a box that may be split at the index: it holds the saved rooms, lies inside the box given, and has no empty room
+    pub record Between (box : List ℕ) : Type 0 where
+      pub holds : BoxInside (take v saved) (take v box)
+      pub inside : BoxInside (take v box) (take v rooms)
+      pub full : Rooms (take v box)
 
-    pub other-rooms : Rooms (take v (otherHalf i saved))
-    other-rooms = subst Rooms (sym other-same) (parts .otherRooms)
+    -- a box that may be searched next: it has no empty room, and fewer open values than the box given
+    pub record Smaller (box : List ℕ) : Type 0 where
+      pub full : Rooms (take v box)
+      pub fewer : openValues (take v box) < openValues (take v rooms)
 
-    pub first-less : openValues (take v (firstHalf i saved)) < openValues (take v rooms)
-    first-less = subst (λ (half : List ℕ). openValues half < openValues (take v rooms)) (sym first-same) (parts .firstFalls)
+    module _ {box : List ℕ} (between : Between box) where
+      -- the index is one of the saved rooms, and of the box
+      inner : i < length (take v saved)
+      inner = omega (arith, split .kept .length-v, split .there)
 
-    pub other-less : openValues (take v (otherHalf i saved)) < openValues (take v rooms)
-    other-less = subst (λ (half : List ℕ). openValues half < openValues (take v rooms)) (sym other-same) (parts .otherFalls)
+      there : i < length (take v box)
+      there = omega (arith, box-inside-length (take v saved) (take v box) (between .holds), inner)
 
-    pub first-counts : Counts allowed s d → s < allowed → Counts allowed (s + 1) d
-    first-counts c h = record { ceiling = c .ceiling; within = omega arith; fewer = omega (arith, c .fewer) }
+      -- the room there has two or more values, as the saved one has
+      two : 2 ≤ count (getD (take v box) i 0)
+      two =
+          let least = subst (λ (j : ℕ). 2 ≤ count (getD (take v saved) j 0)) (sym (split .at)) (parts .two) in
+          let more = count-inside _ _ (rooms-at (take v saved) i (parts .rooms) inner .0) (rooms-at (take v box) i (between .full) there .0) (box-inside-at (take v saved) (take v box) i (between .holds)) in
+          omega arith
 
-    pub other-counts : (r : Found) → Counts allowed s d → s < allowed → r ≡ foundOf begun → Counts allowed (r .splits) (r .«dead_ends»)
+      -- no more values are open than in the box given
+      most : openValues (take v box) ≤ openValues (take v rooms)
+      most = open-inside (take v box) (take v rooms) (between .full) (given .full) (between .inside)
+
+      -- a box with the rooms of a half in front may be searched next
+      smaller : (half part : List ℕ) → take v half ≡ part → Rooms part → openValues part < openValues (take v box) → Smaller half
+      smaller half part e full falls = record { full = subst Rooms (sym e) full; fewer = omega (arith, most, ap openValues e) }
+
+      -- so may each half
+      pub first-smaller : {half : List ℕ} → half ≡ firstHalf i box → Smaller half
+      first-smaller e =
+          smaller _ _ (ap (take v) e ∙ first-front box i (split .there)) (first-half-rooms (take v box) i (between .full) there two) (first-half-falls (take v box) i (between .full) there two)
+
+      pub other-smaller : {half : List ℕ} → half ≡ otherHalf i box → Smaller half
+      other-smaller e =
+          smaller _ _ (ap (take v) e ∙ other-front box i (split .there)) (other-half-rooms (take v box) i (between .full) there two) (other-half-falls (take v box) i (between .full) there two)
+
+    -- the counts after the first part's search fit, and have one split more at least
+    pub first-counted : (r : Found) → Counts allowed s d → s < allowed → r ≡ foundOf begun → Counts allowed (r .splits) (r .«dead_ends») × (s < r .splits)
     unfolding foundOf
-    other-counts r c h e =
+    first-counted r c h e =
         let counted = search-counts fields (openValues (take v rooms)) allowed (s + 1) d (firstPart (take v saved)) (omega arith) in
         let splits : r .splits ≡ begun .splits = ap (λ (g : Found). g .splits) e in
         let ends : r .«dead_ends» ≡ begun .deadEnds = ap (λ (g : Found). g .«dead_ends») e in
-        record { ceiling = c .ceiling; within = omega (arith, counted .within); fewer = omega (arith, counted .fewer, counted .more, c .fewer) }
+        (record { ceiling = c .ceiling; within = omega (arith, counted .within); fewer = omega (arith, counted .fewer, counted .more, c .fewer) }, omega (arith, counted .more))

@@ -1,7 +1,6 @@
 -- `planner::search::search` meets its contract. It calls itself; the measure is the number of open values, which falls with either half. Assumes nothing.
-use mathlib.Core.Path.{_≡_, sym, ap, _∙_, subst}
-use mathlib.Core.List.{List}
-use Prim.Native.Nat.{ℕ, suc, _+_, _≤_, _<_}
+use mathlib.Core.Path.{_≡_, sym, _∙_}
+use Prim.Native.Nat.{ℕ, suc, _≤_, _<_}
 use native.Mathlib.Omega.{arith}
 use lib.ListN.{length, take}
 use borrow.Author.Needs.{needs}
@@ -9,8 +8,9 @@ use borrow.Fn.Kinds.{In}
 use borrow.Fn.PlainCycle.{Measures, is, falls, and}
 use borrow.Kind.Array.{eInt, good-length}
 use mir.Syntax.{w32}
-use Rattle.steps.specs.Boxes.{openValues, Rooms}
+use Rattle.steps.specs.Boxes.{openValues}
 use Rattle.steps.specs.Search.{search as searchOf}
+use Rattle.steps.proofs.BoxLaws.{box-inside-refl}
 use Rattle.boxes.specs.Rooms.{fieldsIn}
 use Rattle.boxes.proofs.InputLaws.{sound-limits}
 use Rattle.boxes.proofs.choose.choose.Reads as choose-reads
@@ -21,7 +21,7 @@ use Rattle.boxes.proofs.settle.settled.Reads as settled-reads
 use Rattle.boxes.proofs.shrink.shrink.Reads as shrink-reads
 use Rattle.planner.specs.declared.search.Answer.the-variants.{None}
 use Rattle.planner.specs.Found.{foundOf}
-use Rattle.planner.proofs.SearchTurns.{Given, Saved, Split, begun, shrunk-dead, ends-dead, saved-of, ends-settled, ends-stalled, ends-undecided, first-found, ends-first, ends-second, first-rooms, other-rooms, first-less, other-less, first-counts, other-counts}
+use Rattle.planner.proofs.SearchTurns.{Given, Saved, Split, begun, shrunk-dead, ends-dead, saved-of, ends-settled, ends-stalled, ends-undecided, first-found, ends-first, ends-second, parts, Smaller, first-smaller, other-smaller, first-counted}
 use Rattle.planner.proofs.search.without_plan.Reads as without-plan-reads
 use Rattle.planner.proofs.search.search.Reads as search′
 use Rattle.planner.proofs.search.search.Kinds as search-kinds
@@ -146,8 +146,7 @@ search-without-plan-requires t c κs = tt
 search-returns : (t : ℕ) → search-lts.Need-returns (claims t) (search-at t) search′.Post
 search-returns t c =
     let shrank = c .before .before .before .before in
-    c .without-plan .ensures
-    ∙ ends-dead (given (start shrank)) _ (shrunk-dead _ _ (shrank .shrink .result) _ (shrank .shrink .ensures) (c .before .enum-told .given .1))
+    ends-dead (given (start shrank)) _ (shrunk-dead _ _ (shrank .shrink .result) _ (shrank .shrink .ensures) (c .before .enum-told .given .1)) (c .without-plan .ensures)
 
 search-enum-told-2 : (t : ℕ) → search-lts.Need-enum-told-2 (claims t) (search-at t) search′.Post
 search-enum-told-2 t c = search needs
@@ -173,8 +172,7 @@ search-returns-3 : (t : ℕ) → search-lts.Need-returns-3 (claims t) (search-at
 search-returns-3 t c =
     let choice = c .before .before in
     let test = tested choice in
-    c .without-plan2 .ensures
-    ∙ ends-stalled (given (begin (living test))) (kept (living test)) (choice .choose .result) (sym (test .settled .ensures) ∙ choice .before .before .if1 .left) (choice .choose .ensures) (c .before .if2 .taken)
+    ends-stalled (given (begin (living test))) (kept (living test)) (choice .choose .result) (sym (test .settled .ensures) ∙ choice .before .before .if1 .left) (choice .choose .ensures) (c .before .if2 .taken) (c .without-plan2 .ensures)
 
 search-without-plan-requires-3 : (t : ℕ) → search-lts.Need-without-plan-requires-3 (claims t) (search-at t) search′.Post
 search-without-plan-requires-3 t c κs = tt
@@ -183,13 +181,12 @@ search-returns-4 : (t : ℕ) → search-lts.Need-returns-4 (claims t) (search-at
 search-returns-4 t c =
     let choice = c .before .before .before in
     let test = tested choice in
-    c .without-plan3 .ensures
-    ∙ ends-undecided (given (begin (living test))) (record {
+    ends-undecided (given (begin (living test))) (record {
       kept = kept (living test);
       unsettled = sym (test .settled .ensures) ∙ choice .before .before .if1 .left;
       at = choice .choose .ensures;
       there = c .before .before .if2 .left;
-    }) (c .before .if3 .taken)
+    }) (c .before .if3 .taken) (c .without-plan3 .ensures)
 
 search-first-half-requires : (t : ℕ) → search-lts.Need-first-half-requires (claims t) (search-at t) search′.Post
 search-first-half-requires t c κs = omega (arith, positions (begin (living (tested (chosen c)))), split c .there)
@@ -204,47 +201,40 @@ before c = begin (living (tested (chosen (opened c))))
 search-add-search : (t : ℕ) → search-lts.Need-add-search (claims t) (search-at t) search′.Post
 search-add-search t c = let counts = before c .pre .1 .2 in omega (arith, opened c .if3 .left)
 
+-- both halves may be searched next, since the box that they are made of lies between the saved rooms and the box given
+fits : {t : ℕ} (c : Halved t)
+    → Smaller (given (before c)) (split (opened c)) (c .before .first-half .result) × Smaller (given (before c)) (split (opened c)) (c .other-half .result)
+fits c =
+    let box = given (before c) in
+    let s = split (opened c) in (
+      first-smaller box s (search (box-inside-refl, parts box s)) (c .before .first-half .ensures),
+      other-smaller box s (search (box-inside-refl, parts box s)) (c .other-half .ensures),
+    )
+
 search-search-requires : (t : ℕ) → search-lts.Need-search-requires (claims t) (search-at t) search′.Post
 search-search-requires t c κs =
-    let s = split (opened c) in
-    let a = before c .args in
-    let same = sym (c .before .first-half .ensures) in (
-      subst (λ (k : ℕ). openValues (take (a .v) (c .before .first-half .result)) < k) (before c .pre .0)
-          (subst (λ (half : List ℕ). openValues (take (a .v) half) < openValues (take (a .v) (a .rooms))) same (first-less (given (before c)) s)),
-      (
-        before c .pre .1 .0,
-        subst (λ (half : List ℕ). Rooms (take (a .v) half)) same (first-rooms (given (before c)) s),
-        first-counts (given (before c)) s (before c .pre .1 .2) (opened c .if3 .left),
-      ),
-    )
+    let known = before c .pre in
+    let counts = known .1 .2 in
+    let left = opened c .if3 .left in
+    let halves = fits c in
+    (omega (arith, known .0), (known .1 .0, search, record { ceiling = omega arith; within = omega arith; fewer = omega arith }))
 
 -- what was found in the first half is what the search finds in the first part
 found-first : {t : ℕ} (c : Searched t) → c .search .result ≡ foundOf (begun (given (before (halved c))) (split (opened (halved c))))
-found-first c =
-    let a = before (halved c) .args in
-    first-found (given (before (halved c))) (split (opened (halved c))) (c .search .result)
-    (c .search .ensures
-    ∙ ap (λ (half : List ℕ). foundOf (searchOf (suc (openValues (take (a .v) half))) (fieldsIn (a .input .now)) (a .allowed) (take (a .v) half) (a .splits + 1) (a .dead-ends)))
-    (halved c .before .first-half .ensures))
+found-first c = first-found (given (before (halved c))) (split (opened (halved c))) (halved c .before .first-half .ensures) (c .search .ensures)
 
 search-enum-told-3 : (t : ℕ) → search-lts.Need-enum-told-3 (claims t) (search-at t) search′.Post
 search-enum-told-3 t c = search needs
 
 search-search-requires-2 : (t : ℕ) → search-lts.Need-search-requires-2 (claims t) (search-at t) search′.Post
 search-search-requires-2 t c κs =
-    let first = c .before .before in
-    let h = halved first in
-    let s = split (opened h) in
-    let a = before h .args in
-    let same = sym (h .other-half .ensures) in (
-      subst (λ (k : ℕ). openValues (take (a .v) (h .other-half .result)) < k) (before h .pre .0)
-          (subst (λ (half : List ℕ). openValues (take (a .v) half) < openValues (take (a .v) (a .rooms))) same (other-less (given (before h)) s)),
-      (
-        before h .pre .1 .0,
-        subst (λ (half : List ℕ). Rooms (take (a .v) half)) same (other-rooms (given (before h)) s),
-        other-counts (given (before h)) s (first .search .result) (before h .pre .1 .2) (opened h .if3 .left) (found-first first),
-      ),
-    )
+    let found = c .before .before in
+    let h = halved found in
+    let known = before h .pre in
+    let counts = known .1 .2 in
+    let counted = first-counted (given (before h)) (split (opened h)) (found .search .result) counts (opened h .if3 .left) (found-first found) in
+    let halves = fits h in
+    (omega (arith, known .0), (known .1 .0, search, record { ceiling = omega arith; within = omega arith; fewer = omega arith }))
 
 search-enum-told-4 : (t : ℕ) → search-lts.Need-enum-told-4 (claims t) (search-at t) search′.Post
 search-enum-told-4 t c = search needs
@@ -259,11 +249,7 @@ search-returns-5 : (t : ℕ) → search-lts.Need-returns-5 (claims t) (search-at
 search-returns-5 t c =
     let first = c .before .before .before in
     let h = halved first in
-    let a = before h .args in
-    ends-second (given (before h)) (split (opened h)) (first .search .result) (c .search2 .result) (found-first first) (opened h .if3 .left) (c .before .enum-told3 .given .1)
-    (c .search2 .ensures
-    ∙ ap (λ (half : List ℕ). foundOf (searchOf (suc (openValues (take (a .v) half))) (fieldsIn (a .input .now)) (a .allowed) (take (a .v) half) (first .search .result .splits) (first .search .result .«dead_ends»)))
-    (h .other-half .ensures))
+    ends-second (given (before h)) (split (opened h)) (first .search .result) (found-first first) (opened h .if3 .left) (c .before .enum-told3 .given .1) (h .other-half .ensures) (c .search2 .ensures)
 
 -- an answer of the first half that is not NONE is the answer
 first-ends : {t : ℕ} (c : Searched t) → (c .search .result .answer ≡ None → ⊥)
