@@ -1,21 +1,25 @@
--- Laws of ladders, the sets that are empty or {1..b}, and of clauses in which the united set of at most one position is no ladder. Assumes nothing.
+-- Ladders, the sets that are empty or {1..b} (`ladder-exactly`), and laws of clauses in which the united set of at most one position is no ladder. Assumes nothing.
 use mathlib.Core.Path.{_≡_, sym, ap, _∙_, subst}
-use mathlib.Core.Logic.{_⊎_, inl, inr, ⊎-elim}
+use mathlib.Core.Logic.{_↔_, _⊎_, inl, inr, ⊎-elim}
 use mathlib.Core.Bool.{false}
 use mathlib.Core.List.{List}
-use Prim.Native.Nat.{ℕ, zero, suc, _+_, _-_, _≤_, _<_}
-use native.Mathlib.Decide.{ℕ-discrete}
+use Prim.Native.Nat.{ℕ, zero, suc, _+_, _-_, _^_, _≤_, _<_}
+use native.Mathlib.Decide.{ℕ-discrete, decLe}
 use native.Mathlib.Omega.{arith}
-use lib.Dec.{T, eqb→eq}
+use lib.Dec.{T}
 use lib.ListN.{length, getD, List·getD-map}
 use lib.Seq.{getD-set-same}
-use Rattle.sets.specs.Sets.{member, full, common, count, smallest}
+use Rattle.sets.specs.Sets.{isMember, member, full, common, count, smallest}
 use Rattle.sets.specs.Promise.{oneIf}
-use Rattle.sets.proofs.Members.{test-same, test-cases, member-positive, member-common, member-full}
+use Rattle.sets.proofs.Members.{test-same, test-cases, member-positive, member-range, member-empty, member-common, member-full}
+use Rattle.sets.proofs.Sameness.{member-extensional, no-member-empty}
+use Rattle.sets.proofs.Counting.{count-of-empty, full-of-zero, count-of-full}
+use Rattle.sets.proofs.Shifts.{full-outside}
 use Rattle.sets.proofs.Smallest.{smallest-of-empty, smallest-least}
 use Rattle.rules.specs.declared.field.Atom.{Atom}
 use Rattle.rules.specs.Rules.{clause}
 use Rattle.rules.specs.Meaning.{valueAt, Meets}
+use Rattle.rules.proofs.SoundLaws.{eq-holds}
 use Rattle.steps.specs.Boxes.{roomAt, withRoom, Rooms, smallestOf}
 use Rattle.steps.specs.Shrinking.{alive, united, cut, lookClause}
 use Rattle.steps.specs.Special.{isLadder, oddSets}
@@ -27,22 +31,72 @@ use Rattle.steps.proofs.InTurn.{dead-not-alive}
 
 -- ---- ladders
 
+-- the set is empty, or {1..b} for some b
+abbrev pub Ladder : ℕ → Type 0
+Ladder m = (m ≡ 0) ⊎ ((b : ℕ) × (1 ≤ b) × (b ≤ 32) × (m ≡ full b))
+
+-- the test of a ladder holds exactly of these sets
+pub ladder-exactly : (m : ℕ) → T (isLadder m) ↔ Ladder m
+unfolding isLadder
+ladder-exactly m = (λ t. forth (decLe 1 (count m)) (decLe (count m) 32) (eq-holds m (full (count m)) .0 t), λ l. eq-holds m (full (count m)) .1 (back l))
+  where
+    forth : Dec (1 ≤ count m) → Dec (count m ≤ 32) → m ≡ full (count m) → Ladder m
+    forth (yes some) (yes few) e = inr (count m, some, few, e)
+    forth (no few) many e = inl (e ∙ sym (full-outside (count m) (λ h. few (h .0))))
+    forth (yes some) (no many) e = inl (e ∙ sym (full-outside (count m) (λ h. many (h .1))))
+
+    back : Ladder m → m ≡ full (count m)
+    back (inl e) = rw e (sym (ap full count-of-empty ∙ full-of-zero))
+    back (inr l) = rw (l .3) (ap full (sym (count-of-full (l .0) (l .2))))
+
 -- a ladder that has a value has every value below it
 pub ladder-down : (m x y : ℕ) → T (isLadder m) → member x m → 1 ≤ y → y ≤ x → member y m
-unfolding isLadder
-ladder-down m x y t u some less =
-    let same : m ≡ full (count m) = eqb→eq m (full (count m)) t in
-    let top = member-full (count m) x .0 (subst (λ (s : ℕ). member x s) same u) in
-    subst (λ (s : ℕ). member y s) (sym same) (member-full (count m) y .1 (top .0, some, omega arith))
+ladder-down m x y t u some less = go (ladder-exactly m .0 t)
+  where
+    go : Ladder m → member y m
+    go (inl e) = absurd (member-empty x (subst (λ (s : ℕ). member x s) e u))
+    go (inr l) =
+        let top = member-full (l .0) x .0 (subst (λ (s : ℕ). member x s) (l .3) u) in
+        subst (λ (s : ℕ). member y s) (sym (l .3)) (member-full (l .0) y .1 (l .2, some, omega arith))
+
+-- with each value the set has every smaller one
+abbrev pub EverySmaller : ℕ → Type 0
+EverySmaller m = (x y : ℕ) → member x m → 1 ≤ y → y ≤ x → member y m
+
+-- such a set with no value above k is a ladder
+smaller-ladder : (k m : ℕ) → k ≤ 32 → ((x : ℕ) → member x m → x ≤ k) → EverySmaller m → Ladder m
+smaller-ladder zero m small low down = inl (no-member-empty m (λ x t. omega (arith, member-positive x m t, low x t)))
+smaller-ladder (suc k) m small low down = go (test-cases (isMember (suc k) m)) (smaller-ladder k m (omega arith))
+  where
+    go : member (suc k) m ⊎ (member (suc k) m → ⊥) → (((x : ℕ) → member x m → x ≤ k) → EverySmaller m → Ladder m) → Ladder m
+    go (inl top) rest = inr (suc k, omega arith, small, member-extensional m (full (suc k)) same)
+      where
+        same : (x : ℕ) → member x m ↔ member x (full (suc k))
+        same x = (
+          λ t. member-full (suc k) x .1 (small, member-positive x m t, low x t),
+          λ t. let range = member-full (suc k) x .0 t in down (suc k) x top (range .1) (range .2),
+        )
+    go (inr none) rest = rest (λ x t. below x t (ℕ-discrete x (suc k))) down
+      where
+        below : (x : ℕ) → member x m → Dec (x ≡ suc k) → x ≤ k
+        below x t (yes e) = absurd (none (subst (λ (y : ℕ). member y m) e t))
+        below x t (no apart) = omega (arith, low x t)
+
+-- the test holds exactly of the sets that have with each value every smaller one
+pub ladder-members : (m : ℕ) → m < 2 ^ 32 → T (isLadder m) ↔ EverySmaller m
+ladder-members m mask = (
+  λ t x y. ladder-down m x y t,
+  λ down. ladder-exactly m .1 (smaller-ladder 32 m (omega arith) (λ x t. member-range x m mask t .1) down),
+)
 
 -- ---- how many united sets are no ladders
 
 -- the united set of the position is no ladder
-abbrev Odd : List Atom → ℕ → Type 0
+abbrev pub Odd : List Atom → ℕ → Type 0
 Odd atoms p = T (isLadder (united p atoms)) → ⊥
 
 -- a last position with such a set is counted
-odd-last : (v : ℕ) (atoms : List Atom) → Odd atoms (suc v) → oddSets (suc v) atoms ≡ 1 + oddSets v atoms
+pub odd-last : (v : ℕ) (atoms : List Atom) → Odd atoms (suc v) → oddSets (suc v) atoms ≡ 1 + oddSets v atoms
 unfolding oddSets oneIf
 odd-last v atoms odd = rw (test-same (isLadder (united (suc v) atoms)) false odd absurd)
 

@@ -13,5 +13,6 @@ pub mod RuleLaws
 pub mod SearchCases
 pub mod SearchLaws
 pub mod ShrinkLaws
+pub mod SpecialExactly
 pub mod SpecialKind
 pub mod StarredCases

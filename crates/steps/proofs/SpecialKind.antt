@@ -5,7 +5,7 @@ use Prim.Native.Nat.{ℕ, zero, suc, _+_, _-_, _≤_, _<_}
 use native.Mathlib.Nat.{le-trans}
 use native.Mathlib.Decide.{ℕ-discrete, decLe}
 use native.Mathlib.Omega.{arith}
-use lib.Dec.{T, leb→le}
+use lib.Dec.{T}
 use lib.ListN.{length, getD}
 use lib.Seq.{getD-set-same, getD-set-other}
 use Rattle.sets.specs.Sets.{single, count, smallest}
@@ -28,6 +28,7 @@ use Rattle.steps.proofs.RuleLaws.{rule-in-turn}
 use Rattle.steps.proofs.ShrinkLaws.{FieldsFit, shrunk-sound, shrunk-inside, shrunk-fixed, fixed-each, never-stalls}
 use Rattle.steps.proofs.SearchCases.{Case, dies, settles, stalls, divides, firstPart, otherPart, caseOf, exploreIn, explore-case, parts-of}
 use Rattle.steps.proofs.LadderLaws.{smallest-at, ladder-clause-least}
+use Rattle.steps.proofs.SpecialExactly.{special-few}
 
 -- ---- the smallest values meet the rules
 
@@ -37,7 +38,7 @@ special-rule-least : (place : ℕ) (rule : Rule) (box : List ℕ) → Rooms box 
 unfolding specialRule clausesOf
 special-rule-least place (clause atoms) box rooms t e =
     let fixed = in-turn-fixed (lookClause place) (clause-inside place) (atoms ∷ []) box rooms (sym (rule-in-turn place (clause atoms) box) ∙ e) in
-    ladder-clause-least place atoms box rooms (leb→le _ 1 t) (fixed .0)
+    ladder-clause-least place atoms box rooms (special-few (length box) atoms t) (fixed .0)
 special-rule-least place (equality m ps) box rooms t e = absurd t
 
 -- ---- what the search finds
