@@ -8,6 +8,7 @@ pub mod Depth
 pub mod InTurn
 pub mod LadderLaws
 pub mod LiveLaws
+pub mod NoneCounts
 pub mod OrderOfCutting
 pub mod RuleLaws
 pub mod SearchCases
