@@ -3,4 +3,5 @@ pub mod BufferLaws
 pub mod PromiseLaws
 pub mod ReplyLaws
 pub mod SearchTurns
+pub mod StarredPlanned
 pub mod Unique
