@@ -1,5 +1,6 @@
 pub mod AnsweredLaws
 pub mod BufferLaws
+pub mod NoneCounted
 pub mod PromiseLaws
 pub mod ReplyLaws
 pub mod SearchTurns
