@@ -10,7 +10,7 @@ use Rattle.lines.specs.Text.{lineOf}
 use Rattle.lines.specs.Grown.{shown, grown, RoomFor}
 
 -- a line shows its bytes
-shown-line : (xs : List ℕ) → shown (lineOf xs) ≡ xs
+pub shown-line : (xs : List ℕ) → shown (lineOf xs) ≡ xs
 unfolding shown lineOf
 shown-line xs = take-append-seam xs _
 

@@ -1,5 +1,6 @@
 pub mod DigitLaws
 pub mod GrownLaws
+pub mod PrintedApart
 pub mod ReadBack
 pub mod ReasonTold
 pub mod SpacedLaws

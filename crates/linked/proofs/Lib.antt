@@ -1,2 +1,1 @@
-pub mod EitherOrder
 pub mod Unique

@@ -3,6 +3,7 @@ pub mod BufferLaws
 pub mod NoneCounted
 pub mod PromiseLaws
 pub mod ReplyLaws
+pub mod ReplyLimits
 pub mod SearchTurns
 pub mod StarredPlanned
 pub mod Unique

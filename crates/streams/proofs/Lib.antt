@@ -1,2 +1,3 @@
+pub mod TurnExamples
 pub mod TurnLaws
 pub mod Unique

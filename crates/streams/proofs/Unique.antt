@@ -1,4 +1,4 @@
--- Any two answers that the promise of `after` allows are equal. Assumes nothing.
+-- Any two answers that the promise of `after` allows are equal. `take_whole`, `turn` and `put` have no such theorem: what is read and written is no value of the call. Assumes nothing.
 use mathlib.Core.Path.{_≡_, sym, _∙_}
 use Prim.Native.Nat.{ℕ}
 use lib.IntN.{ℤ}

@@ -1,6 +1,6 @@
-// Takes an input whole, and tells an input that ended from a read that failed, which `io::read_full`
-// does not; and writes the front of a buffer. The contracts cite specs/Turn.antt (what follows from one
-// read) and specs/Promise.antt (what `take_whole` and `put` promise).
+// Takes an input whole, and tells an input that ended from a read that failed, which
+// `io::read_full` does not; and writes the front of a buffer. The contracts cite specs/Promise.antt
+// (what `take_whole` and `put` promise) and specs/Turn.antt (what follows from one read).
 ghost use Prim.Native.Nat.{_≤_};
 ghost use lib.ListN.{length};
 ghost use Rattle.streams.specs.Promise.{Took, Put};
@@ -16,7 +16,7 @@ pub enum Taken {
     Whole(usize),
     // The buffer is full, so the input may have more.
     TooLong,
-    // A read failed.
+    // A read failed, and nothing is known of the input.
     Failed,
 }
 
@@ -31,10 +31,10 @@ enum Next {
 }
 
 // Reads until the input ends, the buffer is full or a read fails. An input as long as the buffer is
-// too long, since only a read behind it would tell that it ends there. A read that a signal
-// interrupts is tried again, up to 1,000,000 times in all, and then counts as one that failed; an
-// answer that the input is not ready, as of a pipe that does not wait, is a failure at once. Of the
-// bytes that were read no contract can speak, since they are no value of the call.
+// too long, since only a read behind it would tell that it ends there, and so is every input for a
+// buffer of no bytes. A read that a signal interrupts is tried again, 1,000,000 times in all, and
+// after that counts as one that failed. Of the bytes that were read no contract can speak, since
+// they are no value of the call.
 pub fn take_whole(fd: i32, buf: &mut [u8]) -> Taken
     ensures { λ r. ⌜ Took (now (buf .exit)) r ⌝ }
 {
@@ -54,8 +54,8 @@ pub fn take_whole(fd: i32, buf: &mut [u8]) -> Taken
     }
 }
 
-// One read behind the first `done` bytes, which stay as they are. The error is asked for right after
-// the read, before anything can change it.
+// One read behind the first `done` bytes, which stay as they are. The error is asked for right
+// after the read, before another call can change it.
 fn turn(fd: i32, buf: &mut [u8], done: usize) -> Next
     requires { ⌜ done ≤ length (now buf) ⌝ }
     ensures { λ r. ⌜ Turned done (now (buf .entry)) (now (buf .exit)) r ⌝ }
@@ -66,9 +66,9 @@ fn turn(fd: i32, buf: &mut [u8], done: usize) -> Next
 }
 
 // What follows from a read that answered `got`, with this error, behind the first `done` bytes of a
-// buffer of `room` bytes. A read into no room moves nothing, so it tells nothing of the input's end:
-// it is too long. That an answer is never beyond the room is a contract that is assumed and not
-// proved, so it is tested, and is a failure.
+// buffer of `room` bytes. Where no room was left, no byte is not the end of the input. An answer
+// beyond the room counts as a failure: that there is none is a contract of `libc::read`, which is
+// assumed and not proved.
 fn after(got: isize, error: i32, done: usize, room: usize) -> Next
     requires { ⌜ done ≤ room ⌝ }
     ensures { λ r. ⌜ After got error done room r ⌝ }

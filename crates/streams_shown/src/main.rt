@@ -1,9 +1,9 @@
-// Shows what `take_whole` answers, a line for each input: its name, and then `whole` with its length
-// and its bytes, `too long`, or `failed`. The inputs are the files of data/, the folder that they lie
-// in, whose read fails, a descriptor that was closed, and standard input. The buffer has 16 bytes: an
-// input of 15 is taken whole, and one of 16 is too long.
+// Shows what `take_whole` answers, a line for each input: its name, and then `whole` with its
+// length and its bytes, `too long`, or `failed`. The buffer has 16 bytes. The inputs are the files
+// of data/, the folder that they lie in, whose read fails, a descriptor that was closed, and
+// standard input; two of the files are tried with a buffer of no bytes too.
 //
-// The file `stdout` beside src/ has the lines that are right. It was written by hand.
+// The file `stdout` beside src/ has the lines that are right, written by hand.
 use libc::STDIN_FILENO;
 use libc::STDOUT_FILENO;
 use streams::Taken;

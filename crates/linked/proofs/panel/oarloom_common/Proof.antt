@@ -1,6 +1,6 @@
 -- `linked::panel::oarloom_common` meets its promise: that of `Room::common`, of the rooms with the masks a and b in either order. Assumes nothing.
 use borrow.Author.Needs.{needs}
-use Rattle.linked.proofs.EitherOrder.{common-symmetric}
+use Rattle.sets.proofs.Kept.{common-symmetric}
 use Rattle.linked.proofs.panel.oarloom_common.Statement.{statement}
 use Rattle.linked.proofs.panel.oarloom_common.Tie as tie
 

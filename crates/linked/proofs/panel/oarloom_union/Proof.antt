@@ -1,6 +1,6 @@
 -- `linked::panel::oarloom_union` meets its promise: that of `Room::union`, of the rooms with the masks a and b in either order. Assumes nothing.
 use borrow.Author.Needs.{needs}
-use Rattle.linked.proofs.EitherOrder.{union-symmetric}
+use Rattle.sets.proofs.Kept.{union-symmetric}
 use Rattle.linked.proofs.panel.oarloom_union.Statement.{statement}
 use Rattle.linked.proofs.panel.oarloom_union.Tie as tie
 
