@@ -29,14 +29,14 @@ pub common-kept : {a b r : ℕ} → r ≡ common a b → Common a b r
 common-kept {a} {b} e = record { result = e; members = members-of e (λ x. member-common x a b) }
 
 -- what has the values of b or of a has those of a or of b
-pub union-symmetric : (a b r : ℕ) → Union b a r → Union a b r
+pub union-symmetric : {a b r : ℕ} → Union b a r → Union a b r
 unfolding union
-union-symmetric a b r u = union-kept (u .result ∙ or-comm b a)
+union-symmetric {a} {b} u = union-kept (u .result ∙ or-comm b a)
 
 -- what has the values of both b and a has those of both a and b
-pub common-symmetric : (a b r : ℕ) → Common b a r → Common a b r
+pub common-symmetric : {a b r : ℕ} → Common b a r → Common a b r
 unfolding common
-common-symmetric a b r u = common-kept (u .result ∙ and-comm b a)
+common-symmetric {a} {b} u = common-kept (u .result ∙ and-comm b a)
 
 pub inside-kept : {a b : ℕ} {r : Bool} → r ≡ inside a b → Inside a b r
 inside-kept {a} {b} e = record { result = e; members = subst (λ t. T t ↔ ((x : ℕ) → member x a → member x b)) (sym e) (inside-iff a b) }

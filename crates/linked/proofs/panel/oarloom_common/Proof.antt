@@ -8,7 +8,7 @@ common-requires : tie.Need-common-requires
 common-requires c κs = search needs
 
 returns : tie.Need-returns
-returns c = search common-symmetric
+returns c = search (c .common .ensures, common-symmetric (c .common .ensures))
 
 pub oarloom-common-spec : {M : Type 1} → statement M
 oarloom-common-spec = tie.close (tie.spec common-requires returns)

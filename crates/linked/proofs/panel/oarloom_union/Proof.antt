@@ -8,7 +8,7 @@ union-requires : tie.Need-union-requires
 union-requires c κs = search needs
 
 returns : tie.Need-returns
-returns c = search union-symmetric
+returns c = search (c .union .ensures, union-symmetric (c .union .ensures))
 
 pub oarloom-union-spec : {M : Type 1} → statement M
 oarloom-union-spec = tie.close (tie.spec union-requires returns)
