@@ -1,6 +1,7 @@
 pub mod DigitLaws
 pub mod GrownLaws
 pub mod PrintedApart
+pub mod PrintedExamples
 pub mod ReadBack
 pub mod ReasonTold
 pub mod SpacedLaws

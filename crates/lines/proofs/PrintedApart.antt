@@ -15,7 +15,7 @@ use Rattle.planner.specs.declared.plan.Reply.{Reply}
 use Rattle.planner.specs.declared.plan.Reply.the-variants.{Plan, None, Undecided, Stalled, Refused}
 use Rattle.planner.specs.Numbers.{Numbers, numbersOf, numbersGiven}
 use Rattle.planner.specs.Promise.{Accepted, Planned}
-use Rattle.planner.proofs.AnsweredLaws.{reply-too-long, reply-reading}
+use Rattle.planner.proofs.AnsweredLaws.{numbers-too-long, numbers-read}
 use Rattle.planner.proofs.ReplyLimits.{reply-limits, reply-not-stalled}
 use Rattle.lines.specs.declared.Text.{Text}
 use Rattle.lines.specs.Text.{textOf, lineOf}
@@ -35,12 +35,20 @@ promised-printable input before after allowed (Refused number place) p =
     let range = p .answered .refusal in
     (omega arith, omega arith)
 
+-- the values that are printed for an input, where its reply is a plan
+valuesIn : (input : List ℕ) {text : Text} → Printed input text → List ℕ
+valuesIn input p = take (positionsOf (reading input)) (p .after)
+
+-- one text is the text of both replies
+both-texts : (input other : List ℕ) (text : Text) (p : Printed input text) (q : Printed other text) → textOf (p .reply) (valuesIn input p) ≡ textOf (q .reply) (valuesIn other q)
+unfolding valuesIn
+both-texts input other text p q = sym (shown-line _) ∙ ap shown (sym (p .printed) ∙ q .printed) ∙ shown-line _
+
 -- the same text, the same reply
 pub printed-apart : (input other : List ℕ) (text : Text) (p : Printed input text) (q : Printed other text) → p .reply ≡ q .reply
 printed-apart input other text p q =
-    texts-apart (p .reply) (q .reply) (take (positionsOf (reading input)) (p .after)) (take (positionsOf (reading other)) (q .after))
-    (promised-printable input (replicate 64 0) (p .after) 100000 (p .reply) (p .planned)) (promised-printable other (replicate 64 0) (q .after) 100000 (q .reply) (q .planned))
-    (sym (shown-line _) ∙ ap shown (sym (p .printed) ∙ q .printed) ∙ shown-line _)
+    texts-apart (p .reply) (q .reply) (valuesIn input p) (valuesIn other q) (promised-printable input (replicate 64 0) (p .after) 100000 (p .reply) (p .planned))
+    (promised-printable other (replicate 64 0) (q .after) 100000 (q .reply) (q .planned)) (both-texts input other text p q)
 
 -- ---- values
 
@@ -58,7 +66,7 @@ module _ (input after : List ℕ) (r : Reply) (bytes : Every (λ b. b < 256) inp
       go : Dec (length input ≤ 32768) → length input ≤ 32768
       go (yes le) = le
       go (no gt) =
-          let ten : numbersOf r .number ≡ 10 = ap (λ (n : Numbers). n .number) (promised .answered .numbers ∙ ap numbersGiven (reply-too-long input 64 100000 (omega (arith, gt)))) in
+          let ten : numbersOf r .number ≡ 10 = ap (λ (n : Numbers). n .number) (numbers-too-long input (replicate 64 0) after 100000 r promised (omega (arith, gt))) in
           absurd (omega arith)
 
   plan-values : (found : Reading) → reading input ≡ found → Few (take (positionsOf found) after)
@@ -69,7 +77,7 @@ module _ (input after : List ℕ) (r : Reply) (bytes : Every (λ b. b < 256) inp
       let within = written-of-read input bytes file e .1 in
       (omega (arith, first .0 .0 .0, within .positions), every-map (λ x. (1 ≤ x) × (x ≤ file .n)) (λ x. x < 10 ^ 20) (take (file .v) after) (λ x h. omega (arith, within .values)) (first .0 .0 .1))
   plan-values (refused number place) e =
-      let given = promised .answered .numbers ∙ ap numbersGiven (reply-reading input 64 100000 plan-short (omega arith) (omega arith) ∙ ap (λ (f : Reading). ofReading f 100000) e) in
+      let given = numbers-read input (replicate 64 0) after 100000 r promised (refused number place) e plan-short (omega arith) (omega arith) in
       let same : numbersOf r .number ≡ number = ap (λ (n : Numbers). n .number) given in
       absurd (omega (arith, refused-number input number place e))
 
@@ -83,12 +91,12 @@ values-same s d t e (x ∷ xs) (y ∷ ys) f g same = values-apart s d t e x y xs
 pub printed-values-apart : (input other : List ℕ) (text : Text) (p : Printed input text) (q : Printed other text)
     → Every (λ b. b < 256) input → Every (λ b. b < 256) other → (s d : ℕ) → p .reply ≡ Plan s d
     → take (positionsOf (reading input)) (p .after) ≡ take (positionsOf (reading other)) (q .after)
+unfolding valuesIn
 printed-values-apart input other text p q bytes also s d is =
     let too : q .reply ≡ Plan s d = sym (printed-apart input other text p q) ∙ is in
-    let xs : List ℕ = take (positionsOf (reading input)) (p .after) in
-    let ys : List ℕ = take (positionsOf (reading other)) (q .after) in
-    let same : textOf (p .reply) xs ≡ textOf (q .reply) ys = sym (shown-line _) ∙ ap shown (sym (p .printed) ∙ q .printed) ∙ shown-line _ in
+    let xs : List ℕ = valuesIn input p in
+    let ys : List ℕ = valuesIn other q in
     values-same s d s d xs ys
     (plan-values input (p .after) (p .reply) bytes (p .planned) (ap (λ (r : Reply). numbersOf r .number) is) (reading input) refl)
     (plan-values other (q .after) (q .reply) also (q .planned) (ap (λ (r : Reply). numbersOf r .number) too) (reading other) refl)
-    (ap (λ (r : Reply). textOf r xs) (sym is) ∙ same ∙ ap (λ (r : Reply). textOf r ys) too)
+    (ap (λ (r : Reply). textOf r xs) (sym is) ∙ both-texts input other text p q ∙ ap (λ (r : Reply). textOf r ys) too)

@@ -10,6 +10,7 @@ use borrow.Author.Tests.{ne-eqb}
 use lib.Dec.{eqb}
 use lib.ListN.{getD}
 use Rattle.rules.specs.Lists.{Every}
+use Rattle.rules.proofs.ListLaws.{every-over-append}
 use Rattle.steps.specs.Shrinking.{ifTest}
 use Rattle.planner.specs.declared.plan.Reply.{Reply}
 use Rattle.planner.specs.declared.plan.Reply.the-variants.{Plan, None, Undecided, Stalled, Refused}
@@ -50,10 +51,6 @@ decimal-back n lt = digits-back 20 n lt
 abbrev Plain : List ℕ → Type 0
 Plain = Every (λ b. endsWord b ≡ false)
 
-plain-append : (xs ys : List ℕ) → Plain xs → Plain ys → Plain (xs ++ ys)
-plain-append [] ys p q = q
-plain-append (x ∷ xs) ys p q = (p .0, plain-append xs ys (p .1) q)
-
 -- a digit ends no word
 digit-plain : (d : ℕ) → endsWord (48 + d) ≡ false
 unfolding endsWord
@@ -66,7 +63,7 @@ digits-plain (suc k) n = by-size (decLt n 10) (digits-plain k (n / 10))
   where
     by-size : Dec (n < 10) → Plain (digits k (n / 10)) → Plain (digits (suc k) n)
     by-size (yes small) tenth = rw (digits-small k n small) (digit-plain n, tt)
-    by-size (no large) tenth = rw (digits-large k n (omega (arith, large))) (plain-append (digits k (n / 10)) ((48 + n % 10) ∷ []) tenth (digit-plain (n % 10), tt))
+    by-size (no large) tenth = rw (digits-large k n (omega (arith, large))) (every-over-append (λ b. endsWord b ≡ false) (digits k (n / 10)) ((48 + n % 10) ∷ []) .1 (tenth, (digit-plain (n % 10), tt)))
 
 decimal-plain : (n : ℕ) → Plain (decimal n)
 unfolding decimal

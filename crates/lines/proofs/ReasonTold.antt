@@ -16,7 +16,7 @@ use Rattle.planner.specs.declared.plan.Reply.{Reply}
 use Rattle.planner.specs.declared.plan.Reply.the-variants.{Plan, None, Undecided, Stalled, Refused}
 use Rattle.planner.specs.Numbers.{Numbers, numbersOf, numbersGiven, RefusalNumber}
 use Rattle.planner.specs.Promise.{Planned}
-use Rattle.planner.proofs.AnsweredLaws.{reply-too-long, reply-reading}
+use Rattle.planner.proofs.AnsweredLaws.{numbers-too-long, numbers-read}
 use Rattle.lines.specs.Words.{wordsOf, wordsRead, reasonOf}
 use Rattle.lines.proofs.WordLaws.{reason-long, reason-read}
 
@@ -61,14 +61,14 @@ reason-told input after r planned = by-length (decLt 32768 (length input))
   where
     read : (found : Reading) → reading input ≡ found → length input ≤ 32768 → reasonOf input ≡ wordsFor r
     read (refused number place) e short =
-        let given = planned .answered .numbers ∙ ap numbersGiven (reply-reading input 64 100000 short (omega arith) (omega arith) ∙ ap (λ (f : Reading). ofReading f 100000) e) in
+        let given = numbers-read input (replicate 64 0) after 100000 r planned (refused number place) e short (omega arith) (omega arith) in
         let range = refused-number input number place e in
         reason-read input short ∙ ap wordsRead e ∙ sym (of-refusal r number place given (omega arith) (omega arith))
     read (sound file) e short =
-        let given = planned .answered .numbers ∙ ap numbersGiven (reply-reading input 64 100000 short (omega arith) (omega arith) ∙ ap (λ (f : Reading). ofReading f 100000) e) in
+        let given = numbers-read input (replicate 64 0) after 100000 r planned (sound file) e short (omega arith) (omega arith) in
         reason-read input short ∙ ap wordsRead e ∙ sym (of-answer r _ (planned .answered .refusal) (ap (λ (n : Numbers). n .number) given) (answer-number _))
 
     by-length : Dec (32768 < length input) → reasonOf input ≡ wordsFor r
     by-length (yes long) =
-        reason-long input long ∙ sym (of-refusal r 10 0 (planned .answered .numbers ∙ ap numbersGiven (reply-too-long input 64 100000 long)) (omega arith) (omega arith))
+        reason-long input long ∙ sym (of-refusal r 10 0 (numbers-too-long input (replicate 64 0) after 100000 r planned long) (omega arith) (omega arith))
     by-length (no short) = read (reading input) refl (omega (arith, short))

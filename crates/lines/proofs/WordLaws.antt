@@ -1,5 +1,5 @@
 -- Laws of a refusal in words: its parts by number, how many bytes they have, and the words for an input. Assumes nothing.
-use mathlib.Core.Path.{_≡_, refl, sym, ap, _∙_}
+use mathlib.Core.Path.{_≡_, sym, ap, _∙_}
 use mathlib.Core.Bool.{Bool, true, false, cond}
 use mathlib.Core.List.{List, [], _++_}
 use Prim.Native.Nat.{ℕ, _+_, _≤_, _<_}
@@ -9,7 +9,8 @@ use lib.ListN.{length, length-append}
 use borrow.Author.Tests.{lt-ltb, le-ltb, ne-eqb}
 use Rattle.rules.specs.declared.check.Checked.the-variants.{Sound, Refused}
 use Rattle.rules.specs.Checked.{checkedOf}
-use Rattle.rules.specs.Reading.{Reading, sound, refused, reading}
+use Rattle.rules.specs.Reading.{Reading, reading}
+use Rattle.planner.proofs.AnsweredLaws.{checked-refused, checked-sound}
 use Rattle.lines.specs.Text.{bytesOf, decimal}
 use Rattle.lines.specs.Printed.{positionsOf}
 use Rattle.lines.specs.Words.{faultOf, placeOf, wordsOf, wordsRead, reasonOf}
@@ -84,24 +85,20 @@ reason-read input le = simp (le-ltb 32768 (length input) le)
 
 -- the words for a file that a check refuses
 pub words-refused : (r : Reading) (number place : ℕ) → checkedOf r ≡ Refused number place → wordsRead r ≡ wordsOf number place
-unfolding checkedOf wordsRead
-words-refused (sound file) number place e = let z : _≡_ {A = ℕ} 0 1 = cc in absurd (omega arith)
-words-refused (refused m p) number place e = let same : m ≡ number = cc in let there : p ≡ place = cc in rw (same, there)
+unfolding wordsRead
+words-refused r number place e = ap wordsRead (checked-refused r number place e)
 
 -- a file that a check finds sound has none
 pub words-sound : (r : Reading) (v n : ℕ) → checkedOf r ≡ Sound v n → wordsRead r ≡ []
-unfolding checkedOf wordsRead
-words-sound (sound file) v n e = refl
-words-sound (refused m p) v n e = let z : _≡_ {A = ℕ} 0 1 = cc in absurd (omega arith)
+unfolding wordsRead
+words-sound r v n e = ap wordsRead (checked-sound r v n e .0)
 
 -- the number of positions of a file that a check finds sound
 pub positions-sound : (r : Reading) (v n : ℕ) → checkedOf r ≡ Sound v n → v ≡ positionsOf r
-unfolding checkedOf positionsOf
-positions-sound (sound file) v n e = cc
-positions-sound (refused m p) v n e = let z : _≡_ {A = ℕ} 0 1 = cc in absurd (omega arith)
+unfolding positionsOf
+positions-sound r v n e = let s = checked-sound r v n e in sym (s .1) ∙ ap positionsOf (sym (s .0))
 
 -- and of one that it refuses
 pub positions-refused : (r : Reading) (number place : ℕ) → checkedOf r ≡ Refused number place → 0 ≡ positionsOf r
-unfolding checkedOf positionsOf
-positions-refused (sound file) number place e = let z : _≡_ {A = ℕ} 0 1 = cc in absurd (omega arith)
-positions-refused (refused m p) number place e = refl
+unfolding positionsOf
+positions-refused r number place e = ap positionsOf (sym (checked-refused r number place e))

@@ -27,7 +27,8 @@ use Rattle.planner.specs.declared.search.Answer as code
 use Rattle.planner.specs.declared.search.Answer.{Answer}
 use Rattle.planner.specs.declared.search.Found.{Found}
 use Rattle.planner.specs.Found.{answerOf, valuesIn, foundOf}
-use Rattle.planner.specs.Numbers.{Answered}
+use Rattle.planner.specs.Numbers.{numbersOf, numbersGiven, Answered}
+use Rattle.planner.specs.Promise.{Planned}
 
 -- ---- refusals
 
@@ -53,6 +54,20 @@ module _ (input : List ℕ) (buffer allowed : ℕ) where
   pub reply-reading : length input ≤ 32768 → 64 ≤ buffer → allowed ≤ 1000000 → replyOf input buffer allowed ≡ ofReading (reading input) allowed
   unfolding replyOf
   reply-reading h g l = simp (le-ltb 32768 (length input) h, le-ltb buffer 64 g, le-ltb 1000000 allowed l)
+
+-- ---- the numbers of a reply that the promise allows
+
+module _ (input before after : List ℕ) (allowed : ℕ) (r : Reply) (promised : Planned input before after allowed r) where
+  -- to an input that is too long
+  pub numbers-too-long : 32768 < length input → numbersOf r ≡ numbersGiven (refusal 10 0)
+  numbers-too-long h = promised .answered .numbers ∙ ap numbersGiven (reply-too-long input (length before) allowed h)
+
+  -- to what was read, where 10 to 12 do not apply
+  pub numbers-read : (found : Reading) → reading input ≡ found → length input ≤ 32768 → 64 ≤ length before → allowed ≤ 1000000
+      → numbersOf r ≡ numbersGiven (ofReading found allowed)
+  numbers-read found e short roomy modest =
+      promised .answered .numbers
+      ∙ ap numbersGiven (reply-reading input (length before) allowed short roomy modest ∙ ap (λ (f : Reading). ofReading f allowed) e)
 
 -- ---- what a check says of the reading
 

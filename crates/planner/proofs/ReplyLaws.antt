@@ -1,4 +1,4 @@
--- Laws of replies: which reply an accepted call has, what its number tells of the answer, and what it leaves in the buffer. Assumes nothing.
+-- Laws of replies: what holds of every reply, which reply an accepted call has, what its number tells of the answer, and what it leaves in the buffer. Assumes nothing.
 use mathlib.Core.Path.{_≡_, refl, subst}
 use mathlib.Core.Bool.{Bool, true, false}
 use mathlib.Core.List.{List, [], _++_}
@@ -30,6 +30,20 @@ pub accepted-reply : (input before : List ℕ) (allowed : ℕ) (file : File) →
 unfolding replyOf ofReading
 accepted-reply input before allowed file accepted =
     simp (le-ltb 32768 (length input) (accepted .short), le-ltb (length before) 64 (accepted .roomy), le-ltb 1000000 allowed (accepted .modest), accepted .read)
+
+-- what holds of the refusals 10 to 12, and of the reply to what is read where none of them applies, holds of every reply
+pub of-every-reply : (P : Reply → Type 0) (input : List ℕ) (buffer allowed : ℕ) → ((number : ℕ) → 10 ≤ number → number ≤ 12 → P (refusal number 0))
+    → (length input ≤ 32768 → 64 ≤ buffer → allowed ≤ 1000000 → P (ofReading (reading input) allowed)) → P (replyOf input buffer allowed)
+unfolding replyOf
+of-every-reply P input buffer allowed refuses reads =
+    test (ltb 32768 (length input)) (refusal 10 0) _ (refuses 10 (omega arith) (omega arith)) λ short.
+    test (ltb buffer 64) (refusal 11 0) _ (refuses 11 (omega arith) (omega arith)) λ roomy.
+    test (ltb 1000000 allowed) (refusal 12 0) _ (refuses 12 (omega arith) (omega arith)) λ modest.
+    reads (ltb-false 32768 (length input) short) (ltb-false buffer 64 roomy) (ltb-false 1000000 allowed modest)
+  where
+    test : (t : Bool) (g : Reply) (rest : Unit {0} → Reply) → P g → (t ≡ false → P (rest tt)) → P (ifTest t g rest)
+    test true g rest h f = h
+    test false g rest h f = f refl
 
 -- ---- the numbers of the answers
 
@@ -79,11 +93,6 @@ answer-silent none h = refl
 answer-silent undecided h = refl
 answer-silent stalled h = refl
 
-test-silent : (b : Bool) (number place : ℕ) (rest : Unit {0} → Reply) → Silent (rest tt) → Silent (ifTest b (refusal number place) rest)
-unfolding refusal
-test-silent true number place rest s h = refl
-test-silent false number place rest s h = s h
-
 reading-silent : (found : Reading) (allowed : ℕ) → Silent (ofReading found allowed)
 unfolding ofReading refusal replied
 reading-silent (sound file) allowed h = answer-silent (planned file allowed .answer) h
@@ -91,8 +100,8 @@ reading-silent (refused number place) allowed h = refl
 
 -- a reply whose number is not 0 has no values
 pub reply-silent : (input : List ℕ) (buffer allowed : ℕ) → (replyOf input buffer allowed .number ≡ 0 → ⊥) → replyOf input buffer allowed .values ≡ []
-unfolding replyOf
-reply-silent input buffer allowed = search (test-silent, reading-silent)
+unfolding refusal
+reply-silent input buffer allowed = of-every-reply Silent input buffer allowed (λ number low high. λ h. refl) (λ short roomy modest. reading-silent (reading input) allowed)
 
 -- an answer that is no stall has a number of at most 2
 pub number-small : (x : Answer) → (x ≡ stalled → ⊥) → numberOf x ≤ 2
@@ -106,22 +115,10 @@ number-small stalled ne = absurd (ne refl)
 pub reply-refuses : (input : List ℕ) (buffer allowed : ℕ)
     → ((file : File) → length input ≤ 32768 → 64 ≤ buffer → allowed ≤ 1000000 → reading input ≡ sound file → ⊥)
     → (10 ≤ replyOf input buffer allowed .number) × (replyOf input buffer allowed .number ≤ 20)
-unfolding replyOf ofReading refusal
+unfolding ofReading refusal
 reply-refuses input buffer allowed nobody =
-    long (ltb 32768 (length input)) refl
+    of-every-reply (λ g. (10 ≤ g .number) × (g .number ≤ 20)) input buffer allowed (λ number low high. omega arith) (λ short roomy modest. read (reading input) refl short roomy modest)
   where
     read : (r : Reading) → reading input ≡ r → length input ≤ 32768 → 64 ≤ buffer → allowed ≤ 1000000 → (10 ≤ ofReading r allowed .number) × (ofReading r allowed .number ≤ 20)
     read (sound file) e h g l = absurd (nobody file h g l e)
     read (refused number place) e h g l = let n = refused-number input number place e in omega arith
-
-    many : (t : Bool) → ltb 1000000 allowed ≡ t → length input ≤ 32768 → 64 ≤ buffer → (10 ≤ replyOf input buffer allowed .number) × (replyOf input buffer allowed .number ≤ 20)
-    many true t h g = rw (le-ltb 32768 (length input) h, le-ltb buffer 64 g, t) (omega arith)
-    many false t h g = rw (le-ltb 32768 (length input) h, le-ltb buffer 64 g, t) (read (reading input) refl h g (ltb-false 1000000 allowed t))
-
-    narrow : (t : Bool) → ltb buffer 64 ≡ t → length input ≤ 32768 → (10 ≤ replyOf input buffer allowed .number) × (replyOf input buffer allowed .number ≤ 20)
-    narrow true t h = rw (le-ltb 32768 (length input) h, t) (omega arith)
-    narrow false t h = many (ltb 1000000 allowed) refl h (ltb-false buffer 64 t)
-
-    long : (t : Bool) → ltb 32768 (length input) ≡ t → (10 ≤ replyOf input buffer allowed .number) × (replyOf input buffer allowed .number ≤ 20)
-    long true t = rw t (omega arith)
-    long false t = narrow (ltb buffer 64) refl (ltb-false 32768 (length input) t)

@@ -1,38 +1,27 @@
 -- The numbers of every reply are small, and no reply is a stall: `reply-limits`, `reply-not-stalled`. Assumes nothing.
 use mathlib.Core.Path.{_≡_, refl, sym, subst}
-use mathlib.Core.Bool.{Bool, true, false}
 use mathlib.Core.List.{List}
 use Prim.Native.Nat.{ℕ, suc, _≤_}
 use native.Mathlib.Omega.{arith}
-use borrow.Author.Tests.{ltb-false}
-use lib.Dec.{ltb}
 use lib.ListN.{length}
 use Rattle.rules.specs.Rules.{File}
 use Rattle.rules.specs.Reading.{Reading, sound, refused, reading}
 use Rattle.rules.proofs.RefusalLaws.{refused-place}
 use Rattle.steps.specs.Boxes.{startBox, openValues}
-use Rattle.steps.specs.Shrinking.{ifTest}
 use Rattle.steps.specs.Search.{searched}
-use Rattle.steps.specs.Reply as steps
-use Rattle.steps.specs.Reply.{refusal, replied, planned, ofReading, replyOf}
+use Rattle.steps.specs.Reply.{refusal, replied, planned, ofReading}
 use Rattle.steps.proofs.Counts.{search-counts}
 use Rattle.planner.specs.declared.plan.Reply.{Reply}
 use Rattle.planner.specs.declared.plan.Reply.the-variants.{Stalled}
 use Rattle.planner.specs.Numbers.{Numbers, numbersOf, numbersGiven}
 use Rattle.planner.specs.Promise.{Planned}
+use Rattle.planner.proofs.ReplyLaws.{of-every-reply}
 
 -- a place within the longest input, no more splits than may be allowed, and at most one dead end more
 pub record Limited (g : Numbers) : Type 0 where
   pub place : g .place ≤ 32768
   pub splits : g .splits ≤ 1000000
   pub deadEnds : g .deadEnds ≤ 1000001
-
--- a test that refuses, and what comes after it where the test fails
-test-limited : (b : Bool) (number : ℕ) (rest : Unit {0} → steps.Reply) → (b ≡ false → Limited (numbersGiven (rest tt)))
-    → Limited (numbersGiven (ifTest b (refusal number 0) rest))
-unfolding refusal
-test-limited true number rest h = record { place = omega arith; splits = omega arith; deadEnds = omega arith }
-test-limited false number rest h = h refl
 
 -- the search of a file
 search-limited : (file : File) (allowed : ℕ) → allowed ≤ 1000000 → Limited (numbersGiven (replied (planned file allowed)))
@@ -51,18 +40,14 @@ reading-limited input allowed short modest = go (reading input) refl
     go (sound file) read = search-limited file allowed modest
     go (refused number place) read = record { place = omega (arith, refused-place input number place read); splits = omega arith; deadEnds = omega arith }
 
--- the reply of 01's table
-given-limited : (input : List ℕ) (buffer allowed : ℕ) → Limited (numbersGiven (replyOf input buffer allowed))
-unfolding replyOf
-given-limited input buffer allowed =
-    test-limited (ltb 32768 (length input)) 10 _ λ short.
-    test-limited (ltb buffer 64) 11 _ λ roomy.
-    test-limited (ltb 1000000 allowed) 12 _ λ modest.
-    reading-limited input allowed (ltb-false 32768 (length input) short) (ltb-false 1000000 allowed modest)
-
 -- whatever the call, the reply's numbers are small
 pub reply-limits : (input before after : List ℕ) (allowed : ℕ) (r : Reply) → Planned input before after allowed r → Limited (numbersOf r)
-reply-limits input before after allowed r promised = subst Limited (sym (promised .answered .numbers)) (given-limited input (length before) allowed)
+unfolding refusal
+reply-limits input before after allowed r promised =
+    subst Limited (sym (promised .answered .numbers))
+    (of-every-reply (λ g. Limited (numbersGiven g)) input (length before) allowed
+    (λ number low high. record { place = omega arith; splits = omega arith; deadEnds = omega arith })
+    (λ short roomy modest. reading-limited input allowed short modest))
 
 -- and the reply is no stall: an accepted call has a number of at most 2, and any other one of at most 20
 pub reply-not-stalled : (input before after : List ℕ) (allowed s d : ℕ) → Planned input before after allowed (Stalled s d) → ⊥

@@ -1,10 +1,6 @@
 -- `oarloom::main` is safe: an input that was taken whole is shorter than the buffer, so its bytes are a part of it. Assumes nothing.
-use Prim.Native.Nat.{_<_}
-use native.Mathlib.Omega.{arith}
-use mathlib.Core.Path.{sym}
-use lib.ListN.{length}
-use lib.Seq.{length-take-le}
 use borrow.Author.Needs.{needs}
+use Rattle.streams.proofs.TookLaws.{whole-part}
 use Rattle.oarloom.proofs.main.Statement.{statement}
 use Rattle.oarloom.proofs.main.Tie as tie
 
@@ -17,15 +13,11 @@ take-whole-requires c κs = search needs
 enum-known-n : tie.Need-enum-known-n
 enum-known-n c = search needs
 
--- the input is shorter than the buffer
-shorter : (c : tie.After-n) → c .n .given .0 .0 < length (c .before .before .before .take-whole .last .1 .0)
-shorter c = c .before .before .before .take-whole .ensures _ (c .n .given .1)
-
 array-share-prefix-input : tie.Need-array-share-prefix-input
-array-share-prefix-input c = omega (arith, shorter (c .before))
+array-share-prefix-input c = let taken = c .before .before .before .before .take-whole in whole-part (taken .last .1 .0) _ _ (taken .ensures) (c .before .n .given .1) .0
 
 slice-aggregate-reply-to : tie.Need-slice-aggregate-reply-to
-slice-aggregate-reply-to c = sym (length-take-le _ _ (omega (arith, shorter (c .before .before))))
+slice-aggregate-reply-to c = let taken = c .before .before .before .before .before .take-whole in whole-part (taken .last .1 .0) _ _ (taken .ensures) (c .before .before .n .given .1) .1
 
 reply-to-requires : tie.Need-reply-to-requires
 reply-to-requires c κs = search needs

@@ -1,14 +1,14 @@
 -- `streams::put` meets its promise: the part that is written is there, and as long as it says. Assumes nothing.
-use Prim.Native.Nat.{ℕ}
-use mathlib.Core.Path.{_≡_, sym}
+use mathlib.Core.Path.{sym, subst}
 use native.Mathlib.Omega.{arith}
+use lib.Dec.{T}
 use lib.Seq.{length-take-le}
 use borrow.Author.Needs.{needs}
 use Rattle.streams.proofs.put.Statement.{statement}
 use Rattle.streams.proofs.put.Tie as tie
 
 returns : tie.Need-returns
-returns c e = let z : _≡_ {A = ℕ} 0 1 = cc in absurd (omega arith)
+returns c e = absurd (subst T (sym e) tt)
 
 slice-aggregate-write-all : tie.Need-slice-aggregate-write-all
 slice-aggregate-write-all c = sym (length-take-le (c .before .before .before .args .len) (c .before .before .before .args .bytes .now) (omega arith))

@@ -1,16 +1,8 @@
 -- `streams_shown::show_taken` is safe: an input that was taken whole is shorter than the buffer, so its bytes are a part of it. Assumes nothing.
-use Prim.Native.Nat.{_<_}
-use native.Mathlib.Omega.{arith}
-use mathlib.Core.Path.{sym}
 use borrow.Author.Needs.{needs}
-use lib.ListN.{length}
-use lib.Seq.{length-take-le}
+use Rattle.streams.proofs.TookLaws.{whole-part}
 use Rattle.streams_shown.proofs.show_taken.Statement.{statement}
 use Rattle.streams_shown.proofs.show_taken.Tie as tie
-
--- the input is shorter than the buffer
-shorter : (c : tie.After-n) → c .n .given .0 .0 < length (c .before .before .before .before .take-whole .last .1 .0)
-shorter c = c .before .before .before .before .take-whole .ensures _ (c .n .given .1)
 
 take-whole-requires : tie.Need-take-whole-requires
 take-whole-requires c κs = search needs
@@ -19,10 +11,10 @@ enum-known-n : tie.Need-enum-known-n
 enum-known-n c = search needs
 
 slice-reshare-prefix-show-whole : tie.Need-slice-reshare-prefix-show-whole
-slice-reshare-prefix-show-whole c = omega (arith, shorter (c .before))
+slice-reshare-prefix-show-whole c = let taken = c .before .before .before .before .before .take-whole in whole-part (taken .last .1 .0) _ _ (taken .ensures) (c .before .n .given .1) .0
 
 slice-aggregate-show-whole : tie.Need-slice-aggregate-show-whole
-slice-aggregate-show-whole c = sym (length-take-le _ _ (omega (arith, shorter (c .before .before))))
+slice-aggregate-show-whole c = let taken = c .before .before .before .before .before .before .take-whole in whole-part (taken .last .1 .0) _ _ (taken .ensures) (c .before .before .n .given .1) .1
 
 show-whole-requires : tie.Need-show-whole-requires
 show-whole-requires c κs = search needs
