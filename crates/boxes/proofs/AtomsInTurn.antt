@@ -7,7 +7,7 @@ use lib.ListN.{drop}
 use Rattle.rules.specs.declared.field.Atom.{Atom}
 use Rattle.rules.specs.Reading.{atomOf, atomsOf}
 use Rattle.rules.proofs.WalkLaws.{atoms-on}
-use Rattle.boxes.specs.Looks.{AtomsFit, Atoms}
+use Rattle.rules.specs.Contents.{AtomsFit, Atoms}
 use Rattle.boxes.specs.Scans.{atomsFrom, AtomsFrom}
 
 -- at the start all atoms are to come

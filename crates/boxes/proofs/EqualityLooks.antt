@@ -17,7 +17,8 @@ use Rattle.rules.proofs.ByteLaws.{rest-part}
 use Rattle.steps.specs.Boxes.{roomAt}
 use Rattle.steps.specs.Shrinking.{alive, lookClauses, lookRule}
 use Rattle.steps.proofs.BoxLaws.{every-at-place}
-use Rattle.boxes.specs.Looks.{Looked, PositionsFit}
+use Rattle.boxes.specs.Looks.{Looked}
+use Rattle.rules.specs.Contents.{PositionsFit}
 use Rattle.boxes.specs.Scans.{Scanned}
 use Rattle.boxes.proofs.LooksInTurn.{look-one, left-all, left-last, left-dead, left-then}
 use Rattle.boxes.proofs.ScanLaws.{empty-union, scan-starts, scan-passes, scan-meets, scan-there, scan-dead, scan-cuts, meets-front, looked-dead, looked-set}

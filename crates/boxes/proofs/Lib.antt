@@ -1,7 +1,6 @@
 pub mod AtomsInTurn
 pub mod EqualityLooks
 pub mod FieldLooks
-pub mod InputLaws
 pub mod LooksInTurn
 pub mod RoomLists
 pub mod ScanLaws

@@ -17,7 +17,7 @@ use Rattle.rules.proofs.ListLaws.{some-of-listed, listed-of-some, every-of-list
 use Rattle.steps.specs.Boxes.{roomAt}
 use Rattle.steps.specs.Shrinking.{united, settledBy, settledClause}
 use Rattle.steps.proofs.LiveLaws.{member-united}
-use Rattle.boxes.specs.Looks.{Atoms}
+use Rattle.rules.specs.Contents.{Atoms}
 use Rattle.boxes.specs.Scans.{AtomsFrom}
 use Rattle.boxes.proofs.UnitedLaws.{unitedSets, united-sets-at, united-sets-none, united-here, united-elsewhere, united-sets-more, atom-here, atomsBehind, atoms-before, behind-all, behind-none}
 use Rattle.boxes.proofs.AtomsInTurn.{atom-fits, atom-listed}

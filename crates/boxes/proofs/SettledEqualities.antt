@@ -18,7 +18,7 @@ use Rattle.rules.proofs.ListLaws.{some-of-listed, listed-of-some, some-over-map
 use Rattle.steps.specs.Boxes.{roomAt}
 use Rattle.steps.specs.Shrinking.{united, settledBy, settledClause, settledClauses, settledRule}
 use Rattle.steps.proofs.LiveLaws.{member-united}
-use Rattle.boxes.specs.Looks.{PositionsFit}
+use Rattle.rules.specs.Contents.{PositionsFit}
 use Rattle.boxes.specs.Rooms.{someRoom}
 use Rattle.boxes.proofs.ScanLaws.{room-there}
 use Rattle.boxes.proofs.EqualityLooks.{position-fits}

@@ -13,9 +13,9 @@ use Rattle.rules.specs.Reading.{atomsOf, headOf, ruleOf, sizeOf, fieldFault, re
 use Rattle.rules.specs.Clauses.{clausesOf}
 use Rattle.rules.proofs.WalkLaws.{Rest, rest-on, rest-end}
 use Rattle.steps.specs.Shrinking.{settledClause, settledClauses, settledRule, settled}
-use Rattle.boxes.specs.Looks.{PositionsFit, Atoms}
-use Rattle.boxes.specs.Rooms.{fileOf, fieldsIn, SoundInput}
-use Rattle.boxes.proofs.InputLaws.{sound-limits, sound-rest, field-there, rule-here, no-header-here, no-unknown-here, clause-here, equality-here}
+use Rattle.rules.specs.Contents.{PositionsFit, Atoms}
+use Rattle.rules.specs.Sound.{fileOf, fieldsIn, SoundInput}
+use Rattle.rules.proofs.InputLaws.{sound-limits, sound-rest, field-there, rule-here, no-header-here, no-unknown-here, clause-here, equality-here}
 use Rattle.boxes.proofs.TestsInARow.{all-fail, all-on}
 
 -- before the field at a place all fields are settled: whether those from there on are decides

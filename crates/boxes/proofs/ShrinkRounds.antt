@@ -21,8 +21,9 @@ use Rattle.steps.proofs.RuleLaws.{rule-in-turn, rule-inside, rule-place}
 use Rattle.steps.proofs.ShrinkLaws.{lookField, round-in-turn, shrink-enough}
 use Rattle.boxes.specs.declared.shrink.Verdict.the-variants.{Alive, Dead}
 use Rattle.boxes.specs.Looks.{Looked}
-use Rattle.boxes.specs.Rooms.{fileOf, fieldsIn, SoundInput, Rounded, shrunkRooms}
-use Rattle.boxes.proofs.InputLaws.{sound-rest, field-there}
+use Rattle.boxes.specs.Rooms.{Rounded, shrunkRooms}
+use Rattle.rules.specs.Sound.{fileOf, fieldsIn, SoundInput}
+use Rattle.rules.proofs.InputLaws.{sound-rest, field-there}
 
 -- ---- a box in front of the others
 

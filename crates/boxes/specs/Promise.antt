@@ -8,7 +8,8 @@ use Rattle.steps.specs.Boxes.{firstHalf, otherHalf, smallestOf}
 use Rattle.steps.specs.Shrinking as steps
 use Rattle.steps.specs.Search.{chosen}
 use Rattle.boxes.specs.declared.shrink.Shrunk.{Shrunk}
-use Rattle.boxes.specs.Rooms.{fieldsIn, shrunkRooms}
+use Rattle.boxes.specs.Rooms.{shrunkRooms}
+use Rattle.rules.specs.Sound.{fieldsIn}
 
 -- `choose`: the index of the first of the v rooms with two or more values; v where there is none
 abbrev pub Chooses : List ℕ → ℕ → ℕ → Type 0

@@ -1,31 +1,15 @@
--- What the functions of `src/shrink.rt` and `src/settle.rt` promise: sound inputs, rounds, and rooms in an array of 64. Assumes nothing.
+-- What the functions of `src/shrink.rt` and `src/settle.rt` promise: rounds, and rooms in an array of 64. Assumes nothing.
 use Prim.Native.Nat.{ℕ}
 use mathlib.Core.Path.{_≡_}
 use mathlib.Core.Bool.{Bool, false, _||_, Bool·beq}
 use mathlib.Core.List.{List, [], _∷_, _++_}
 use lib.ListN.{replicate}
 use Rattle.sets.specs.Sets.{inside}
-use Rattle.rules.specs.Rules.{Field, File}
-use Rattle.rules.specs.Reading.{Reading, sound, refused, reading}
 use Rattle.steps.specs.Boxes.{roomAt}
 use Rattle.steps.specs.Shrinking.{Look, dead, alive}
 use Rattle.boxes.specs.declared.shrink.Verdict.{Verdict}
 use Rattle.boxes.specs.declared.shrink.Verdict.the-variants.{Alive, Dead}
 use Rattle.boxes.specs.declared.shrink.Shrunk.{Shrunk}
-
--- the file that was read, and a file with nothing in it where the bytes were refused
-unfoldable pub fileOf : Reading → File
-fileOf (sound file) = file
-fileOf (refused number place) = record { v = 0; n = 0; fields = [] }
-
--- the fields of the file that the bytes are
-unfoldable pub fieldsIn : List ℕ → List Field
-fieldsIn s = fileOf (reading s) .fields
-
--- the bytes are a sound file of v positions
-pub record SoundInput (s : List ℕ) (v : ℕ) : Type 0 where
-  pub read : reading s ≡ sound (fileOf (reading s))
-  pub positions : fileOf (reading s) .v ≡ v
 
 -- what a round leaves: the place of a dead field; or the rooms of the box in front of the others
 abbrev pub Rounded : Look → Verdict → List ℕ → List ℕ → Type 0

@@ -9,7 +9,7 @@ use Rattle.rules.specs.Reading.{atomsOf}
 use Rattle.steps.specs.Boxes.{roomAt}
 use Rattle.steps.specs.Shrinking.{united}
 use Rattle.boxes.specs.declared.clause.Met.{Met}
-use Rattle.boxes.specs.Looks.{AtomsFit}
+use Rattle.rules.specs.Contents.{AtomsFit}
 
 -- the atoms from i on, of a clause of so many bytes
 abbrev pub atomsFrom : ℕ → ℕ → List ℕ → List Atom

@@ -9,7 +9,8 @@ ghost use Rattle.rules.specs.Clauses.{atomIn};
 ghost use Rattle.rules.specs.Reading.{ruleOf};
 ghost use Rattle.rules.specs.declared.field.Tag.the-variants.{Equality};
 ghost use Rattle.steps.specs.Shrinking.{lookClauses, lookRule};
-ghost use Rattle.boxes.specs.Looks.{PositionsFit, Looked};
+ghost use Rattle.boxes.specs.Looks.{Looked};
+ghost use Rattle.rules.specs.Contents.{PositionsFit};
 use rules::field::set_at;
 use sets::Room;
 

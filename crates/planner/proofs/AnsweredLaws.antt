@@ -20,7 +20,7 @@ use Rattle.steps.specs.Search.{Outcome}
 use Rattle.steps.specs.Reply as given
 use Rattle.steps.specs.Reply.{refusal, replied, planned, ofReading, replyOf, numberOf, valuesOf}
 use Rattle.steps.proofs.Demands.{plan-first}
-use Rattle.boxes.specs.Rooms.{fileOf, SoundInput}
+use Rattle.rules.specs.Sound.{fileOf, SoundInput}
 use Rattle.planner.specs.declared.plan.Reply.{Reply}
 use Rattle.planner.specs.declared.plan.Reply.the-variants.{Plan, None, Undecided, Stalled, Refused}
 use Rattle.planner.specs.declared.search.Answer as code

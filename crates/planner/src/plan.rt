@@ -8,7 +8,7 @@ ghost use Rattle.sets.specs.Sets.{full};
 ghost use Rattle.rules.specs.Lists.{Every};
 ghost use Rattle.rules.specs.Reading.{reading};
 ghost use Rattle.steps.specs.Reply.{replied, planned};
-ghost use Rattle.boxes.specs.Rooms.{SoundInput, fileOf};
+ghost use Rattle.rules.specs.Sound.{SoundInput, fileOf};
 ghost use Rattle.planner.specs.Numbers.{Answered};
 ghost use Rattle.planner.specs.Promise.{Planned};
 use super::search::Answer;

@@ -5,7 +5,7 @@ ghost use Prim.Native.Nat.{suc, _+_};
 ghost use lib.ListN.{take};
 ghost use Rattle.steps.specs.Boxes.{openValues, Rooms};
 ghost use Rattle.steps.specs.Search.{search};
-ghost use Rattle.boxes.specs.Rooms.{SoundInput, fieldsIn};
+ghost use Rattle.rules.specs.Sound.{SoundInput, fieldsIn};
 ghost use Rattle.planner.specs.Found.{foundOf, Counts};
 use boxes::choose::choose;
 use boxes::choose::first_half;

@@ -5,7 +5,9 @@ pub mod EqualityMeaning
 pub mod FaultLaws
 pub mod FieldLaws
 pub mod FrameLaws
+pub mod HeadedFields
 pub mod HeaderLaws
+pub mod InputLaws
 pub mod ListLaws
 pub mod ReadExamples
 pub mod ReadingLaws

@@ -6,3 +6,5 @@ pub mod Meaning
 pub mod Clauses
 pub mod Writing
 pub mod Promise
+pub mod Contents
+pub mod Sound

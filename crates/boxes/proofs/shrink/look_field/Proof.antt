@@ -5,8 +5,9 @@ use lib.ListN.{length, drop}
 use borrow.Author.Needs.{needs}
 use Rattle.rules.specs.declared.field.Tag.the-variants.{Equality}
 use Rattle.rules.specs.Reading.{headOf}
-use Rattle.boxes.proofs.InputLaws.{field-there}
-use Rattle.boxes.proofs.FieldLooks.{Headed, content-there, no-header-there, no-unknown-there, clause-there, equality-there, look-there, look-clause-there}
+use Rattle.rules.proofs.InputLaws.{field-there}
+use Rattle.boxes.proofs.FieldLooks.{look-there, look-clause-there}
+use Rattle.rules.proofs.HeadedFields.{Headed, content-there, no-header-there, no-unknown-there, clause-there, equality-there}
 use Rattle.boxes.proofs.shrink.look_field.Statement.{statement}
 use Rattle.boxes.proofs.shrink.look_field.Tie as tie
 

@@ -10,8 +10,8 @@ use Rattle.rules.specs.Reading.{reading, ruleAt, sizeOf, fieldFault}
 use Rattle.rules.proofs.ReadingLaws.{size-least}
 use Rattle.steps.specs.Shrinking.{lookRule}
 use Rattle.boxes.specs.Looks.{Looked}
-use Rattle.boxes.specs.Rooms.{fileOf}
-use Rattle.boxes.proofs.InputLaws.{sound-limits}
+use Rattle.rules.specs.Sound.{fileOf}
+use Rattle.rules.proofs.InputLaws.{sound-limits}
 use Rattle.boxes.proofs.ShrinkRounds.{Going, going-start, going-end, going-field, going-within, going-dead, going-on}
 use Rattle.boxes.proofs.shrink.look_round.Statement.{statement}
 use Rattle.boxes.proofs.shrink.look_round.Tie as tie

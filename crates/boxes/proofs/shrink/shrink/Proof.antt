@@ -6,8 +6,9 @@ use Rattle.steps.specs.Boxes.{openValues}
 use Rattle.steps.specs.Shrinking.{round}
 use Rattle.boxes.specs.declared.shrink.Verdict.{Verdict}
 use Rattle.boxes.specs.declared.shrink.Verdict.the-variants.{Alive, Dead}
-use Rattle.boxes.specs.Rooms.{fieldsIn, Rounded}
-use Rattle.boxes.proofs.InputLaws.{sound-limits}
+use Rattle.boxes.specs.Rooms.{Rounded}
+use Rattle.rules.specs.Sound.{fieldsIn}
+use Rattle.rules.proofs.InputLaws.{sound-limits}
 use Rattle.boxes.proofs.ShrinkRounds.{Cutting, cutting-dead, cutting-done, cutting-falls, cutting-on}
 use Rattle.boxes.proofs.shrink.shrink.Statement.{statement}
 use Rattle.boxes.proofs.shrink.shrink.Tie as tie

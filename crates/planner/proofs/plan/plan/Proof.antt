@@ -6,7 +6,7 @@ use Rattle.rules.specs.Lists.{Every}
 use Rattle.rules.specs.Reading.{Reading, sound, reading}
 use Rattle.rules.proofs.RefusalLaws.{refused-number}
 use Rattle.steps.specs.Reply.{Reply, ofReading}
-use Rattle.boxes.specs.Rooms.{fileOf}
+use Rattle.rules.specs.Sound.{fileOf}
 use Rattle.planner.specs.Numbers.{Answered}
 use Rattle.planner.proofs.AnsweredLaws.{answered-refusal, reply-too-long, reply-no-room, reply-too-many, reply-reading, checked-refused, checked-sound, bytes-each}
 use Rattle.planner.proofs.PromiseLaws.{promise-kept}

@@ -10,8 +10,8 @@ use Rattle.steps.specs.Boxes.{startBox, openValues, Rooms}
 use Rattle.steps.specs.Search.{searched, search as searchOf}
 use Rattle.steps.specs.Reply.{replied, planned}
 use Rattle.steps.proofs.BoxSizes.{start-rooms}
-use Rattle.boxes.specs.Rooms.{fileOf, fieldsIn}
-use Rattle.boxes.proofs.InputLaws.{sound-limits, sound-values}
+use Rattle.rules.specs.Sound.{fileOf, fieldsIn}
+use Rattle.rules.proofs.InputLaws.{sound-limits, sound-values}
 use Rattle.planner.specs.declared.search.Answer.{Answer}
 use Rattle.planner.specs.declared.search.Answer.the-variants.{Plan}
 use Rattle.planner.specs.Found.{foundOf}

@@ -11,8 +11,8 @@ use mir.Syntax.{w32}
 use Rattle.steps.specs.Boxes.{openValues}
 use Rattle.steps.specs.Search.{search as searchOf}
 use Rattle.steps.proofs.BoxLaws.{box-inside-refl}
-use Rattle.boxes.specs.Rooms.{fieldsIn}
-use Rattle.boxes.proofs.InputLaws.{sound-limits}
+use Rattle.rules.specs.Sound.{fieldsIn}
+use Rattle.rules.proofs.InputLaws.{sound-limits}
 use Rattle.boxes.proofs.choose.choose.Reads as choose-reads
 use Rattle.boxes.proofs.choose.first_half.Reads as first-half-reads
 use Rattle.boxes.proofs.choose.other_half.Reads as other-half-reads

@@ -8,21 +8,21 @@ use lib.Dec.{T}
 use lib.ListN.{length, take, drop}
 use lib.Seq.{drop-drop}
 use Rattle.sets.proofs.Members.{test-true}
 use Rattle.rules.specs.declared.field.Tag.{Tag}
 use Rattle.rules.specs.declared.field.Tag.the-variants.{Header, Clause, Equality, Unknown}
 use Rattle.rules.specs.declared.field.Atom.{Atom}
 use Rattle.rules.specs.Lists.{Every}
 use Rattle.rules.specs.Rules.{File}
 use Rattle.rules.specs.Reading.{sound, headerFault, atomsOf, setAt, headOf, contentOf, lengthFits, isHeader, isUnknown, ruleOf, ruleAt, ruleFault, setFault, fieldFault, sizeOf, reading}
 use Rattle.rules.specs.Writing.{PositionFits, SetFits}
 use Rattle.rules.proofs.ListLaws.{every-map}
 use Rattle.rules.proofs.SoundLaws.{SoundField, SoundHeader, field-fault-none, header-fault-none, or-else-none, atoms-fault-none, positions-fault-none}
 use Rattle.rules.proofs.FieldLaws.{clause-length, equality-length}
 use Rattle.rules.proofs.ReadingLaws.{refuse-for-sound}
 use Rattle.rules.proofs.CheckLaws.{next-within}
 use Rattle.rules.proofs.WalkLaws.{Rest, rest-start}
-use Rattle.boxes.specs.Looks.{PositionsFit}
-use Rattle.boxes.specs.Rooms.{fileOf, fieldsIn, SoundInput}
+use Rattle.rules.specs.Contents.{PositionsFit}
+use Rattle.rules.specs.Sound.{fileOf, fieldsIn, SoundInput}
 
 -- ---- a sound input
 

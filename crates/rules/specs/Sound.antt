@@ -1,0 +1,20 @@
+-- Sound inputs: bytes that are a file, and the fields of that file. Assumes nothing.
+use Prim.Native.Nat.{ℕ}
+use mathlib.Core.Path.{_≡_}
+use mathlib.Core.List.{List, []}
+use Rattle.rules.specs.Rules.{Field, File}
+use Rattle.rules.specs.Reading.{Reading, sound, refused, reading}
+
+-- the file that was read, and a file with nothing in it where the bytes were refused
+unfoldable pub fileOf : Reading → File
+fileOf (sound file) = file
+fileOf (refused number place) = record { v = 0; n = 0; fields = [] }
+
+-- the fields of the file that the bytes are
+unfoldable pub fieldsIn : List ℕ → List Field
+fieldsIn s = fileOf (reading s) .fields
+
+-- the bytes are a sound file of v positions
+pub record SoundInput (s : List ℕ) (v : ℕ) : Type 0 where
+  pub read : reading s ≡ sound (fileOf (reading s))
+  pub positions : fileOf (reading s) .v ≡ v
