@@ -1,23 +1,17 @@
 # Makes the stored output of `reading`: for each of its files SOUND with v and n, or the refusal. The bytes of the
-# files are taken from the source of `reading`, but for the long files, which it makes in steps.
+# files are taken from the list that `reading` reads, but for the long files, which it makes in steps.
 import pathlib
-import re
 
 import scope
 from writing import field, header
 
-SOURCE = pathlib.Path(__file__).resolve().parent.parent / 'crates' / 'reading' / 'src'
-# A file in the source: its number in the list, and its bytes in decimal.
-SHOWN = re.compile(r'show\(\s*(\d+),\s*&\[([\d,\s]*)\],?\s*\)')
+LIST = pathlib.Path(__file__).resolve().parent.parent / 'crates' / 'reading' / 'stdin'
 
 
-# The files that stand in the source byte for byte, by their numbers.
+# The files of the list, by their numbers: the bytes in decimal behind the last colon of each line that has one.
 def short_files():
-    files = {}
-    for path in SOURCE.glob('*.rt'):
-        for number, listed in SHOWN.findall(path.read_text(encoding='utf-8')):
-            files[int(number)] = bytes(int(byte) for byte in listed.split(',') if byte.strip())
-    return files
+    lines = [line for line in LIST.read_text(encoding='utf-8').splitlines() if ':' in line]
+    return {number: bytes(map(int, line.rpartition(':')[2].split())) for number, line in enumerate(lines, 1)}
 
 
 # The long files, by their numbers: an equality of 64 positions, and clauses of atoms whose five bytes are all 1.

@@ -3,8 +3,8 @@ ghost use Prim.Native.Nat.{_≤_};
 ghost use lib.ListN.{length};
 use libc::STDOUT_FILENO;
 use lines::answer::answer;
-use planner::plan::Reply;
 use planner::plan::plan;
+use searching::reply::Reply;
 use streams::put;
 
 // Calls `plan` with a buffer of 70 bytes and prints the line, which starts with the name. The file
@@ -78,25 +78,12 @@ fn kept(buffer: &[u8; 70], from: usize) -> bool {
 fn numbers(reply: Reply, v: usize) -> usize
     ensures { λ r. ⌜ r ≤ v ⌝ }
 {
-    match reply {
-        Reply::Plan { splits, dead_ends } => {
-            four(0, 0, splits, dead_ends);
-            return v;
-        }
-        Reply::None { splits, dead_ends } => four(1, 0, splits, dead_ends),
-        Reply::Undecided { splits, dead_ends } => four(2, 0, splits, dead_ends),
-        Reply::Stalled { splits, dead_ends } => four(21, 0, splits, dead_ends),
-        Reply::Refused { number, place } => four(number as u64, place as u64, 0, 0),
-    }
-    0
-}
-
-// Four numbers, each after a space.
-fn four(number: u64, place: u64, splits: u64, dead_ends: u64) {
-    spaced(number);
-    spaced(place);
-    spaced(splits);
-    spaced(dead_ends);
+    let number = reply.number;
+    spaced(number as u64);
+    spaced(reply.place as u64);
+    spaced(reply.splits);
+    spaced(reply.dead_ends);
+    if number == Reply::PLAN { v } else { 0 }
 }
 
 // The first so many bytes of the buffer as numbers, each after a space.

@@ -1,27 +1,28 @@
--- Laws of looks at an equality: at the clause of one atom, at those of the positions and of the values that are left, and at all of them. Assumes nothing.
-use mathlib.Core.Path.{_≡_, refl, sym, ap, ap₂, _∙_, subst}
-use mathlib.Core.Logic.{inl}
-use mathlib.Core.Bool.{Bool, true, false}
-use mathlib.Core.List.{List, [], _∷_, _++_, map}
+-- Laws of looks at an equality: at a clause of one atom, at one of several positions, at those of the values that are left, and at all of them. Assumes nothing.
+use mathlib.Core.Path.{_≡_, refl, sym, ap, ap₂, _∙_}
+use mathlib.Core.Logic.{_⊎_, inl}
+use mathlib.Core.Bool.{true, false}
+use mathlib.Core.List.{List, [], _∷_, map}
 use Prim.Native.Nat.{ℕ, _+_, _-_, _^_, _≤_, _<_}
-use native.Mathlib.Numerals.{add-one}
-use native.Mathlib.Omega.{arith}
-use lib.ListN.{length, getD, set, take, drop, length-take, length-drop, drop-of-length-le}
-use lib.Seq.{drop-cons, getD-take}
-use Rattle.sets.specs.Sets.{single, union, common, values, smallest, others}
+use lib.ListN.{getD, set, take, drop}
+use Rattle.sets.specs.Sets.{union, common, values, smallest, others}
 use Rattle.sets.proofs.Smallest.{values-others, values-of-empty}
+use Rattle.sets.proofs.Unions.{empty-union}
+use Rattle.rules.specs.declared.field.Atom.{Atom}
 use Rattle.rules.specs.declared.field.Tag.the-variants.{Equality}
-use Rattle.rules.specs.Clauses.{atomIn, equalityClauses, clausesOf}
+use Rattle.rules.specs.Contents.{Positions}
 use Rattle.rules.specs.Reading.{setAt, ruleOf}
-use Rattle.rules.proofs.ByteLaws.{rest-part}
+use Rattle.rules.specs.Writing.{PositionFits}
 use Rattle.steps.specs.Boxes.{roomAt}
-use Rattle.steps.specs.Shrinking.{alive, lookClauses, lookRule}
-use Rattle.steps.proofs.BoxLaws.{every-at-place}
-use Rattle.boxes.specs.Looks.{Looked}
-use Rattle.rules.specs.Contents.{PositionsFit}
-use Rattle.boxes.specs.Scans.{Scanned}
-use Rattle.boxes.proofs.LooksInTurn.{look-one, left-all, left-last, left-dead, left-then}
-use Rattle.boxes.proofs.ScanLaws.{empty-union, scan-starts, scan-passes, scan-meets, scan-there, scan-dead, scan-cuts, meets-front, looked-dead, looked-set}
+use Rattle.steps.specs.Shrinking.{lookPart, lookParts, lookRule}
+use Rattle.lists.proofs.FrontParts.{front-on, front-end}
+use Rattle.rules.specs.Parts.{oneOf, atomIn, eachInside, eachTaken, equalityParts, partsOf}
+use Rattle.clauses.specs.Looks.{Leaves}
+use Rattle.clauses.specs.Scans.{Scanned}
+use Rattle.clauses.proofs.FrontRooms.{meets-front, leaves-dead, leaves-same, leaves-set}
+use Rattle.clauses.proofs.PositionsInTurn.{position-fits}
+use Rattle.clauses.proofs.ScanLaws.{scan-starts, scan-as, scan-passes, scan-meets, scan-several, scan-there, scan-dead, scan-cuts}
+use Rattle.boxes.proofs.LooksInTurn.{LeftToLook, left-all, append-in-turn}
 
 -- ---- the clause "the position is in the set"
 
@@ -33,50 +34,72 @@ module _ (m p v : ℕ) (rooms : List ℕ) (low : 1 ≤ p) (high : p ≤ v) where
   start = scan-starts (take v rooms) 0 refl
 
   -- looking at it: dead where its room has no value of the set
-  pub look-single-dead : common (getD rooms (p - 1) 0) m ≡ 0 → (last : List ℕ) (place : ℕ)
-      → Looked (lookClauses place ((atomIn m p ∷ []) ∷ []) (take v rooms)) false last (drop v rooms)
+  pub look-single-dead : common (getD rooms (p - 1) 0) m ≡ 0 → (after : List ℕ) → Leaves lookPart (oneOf (atomIn m p ∷ [])) v rooms false after
   unfolding atomIn
-  look-single-dead none last place =
-      looked-dead v rooms _ last (look-one place (atomIn m p ∷ []) (take v rooms) ∙ scan-dead (scan-passes start refl meets-here none) refl place refl)
+  look-single-dead none after = leaves-dead lookPart (oneOf (atomIn m p ∷ [])) v rooms (λ place. scan-dead (scan-passes start refl meets-here none) refl place refl)
 
   -- else its room is cut down to those
-  pub look-single-cut : (common (getD rooms (p - 1) 0) m ≡ 0 → ⊥) → (place : ℕ)
-      → Looked (lookClauses place ((atomIn m p ∷ []) ∷ []) (take v rooms)) true (set rooms (p - 1) (common (getD rooms (p - 1) 0) m)) (drop v rooms)
+  pub look-single-cut : (shared : ℕ) → shared ≡ common (getD rooms (p - 1) 0) m → (shared ≡ 0 → ⊥) → Leaves lookPart (oneOf (atomIn m p ∷ [])) v rooms true (set rooms (p - 1) shared)
   unfolding atomIn
-  look-single-cut meets place =
-      looked-set v rooms _ (p - 1) shared (scan-there met has)
-      (look-one place (atomIn m p ∷ []) (take v rooms) ∙ scan-cuts met refl place has ∙ ap (λ (k : ℕ). alive (set (take v rooms) (p - 1) k)) (empty-union shared))
+  look-single-cut shared e meets =
+      leaves-set lookPart (oneOf (atomIn m p ∷ [])) v rooms (p - 1) shared (scan-there met meets) (λ place. scan-cuts met refl place meets)
     where
-      shared : ℕ
-      shared = common (getD rooms (p - 1) 0) m
+      met : Scanned (atomIn m p ∷ []) [] (take v rooms) (p - 1) shared
+      met = scan-as (scan-meets start refl (e ∙ meets-here) low (inl refl)) refl (sym (empty-union shared))
 
-      met : Scanned (atomIn m p ∷ []) [] (take v rooms) (p - 1) (union 0 shared)
-      met = scan-meets start refl meets-here low (inl refl)
+-- ---- the clause "one of the positions is in the set"
 
-      has : union 0 shared ≡ 0 → ⊥
-      has e = meets (sym (empty-union shared) ∙ e)
+-- the atoms of the positions that the first so many bytes name
+abbrev anyIn : ℕ → ℕ → List ℕ → List Atom
+anyIn m count bytes = map (atomIn m) (take count bytes)
 
--- ---- the positions and the values that are left
+-- what the scan of these positions has met before the one with this index
+abbrev pub Named : ℕ → ℕ → ℕ → List ℕ → ℕ → List ℕ → ℕ → ℕ → Type 0
+Named m v count bytes i rooms live kept = Scanned (anyIn m count bytes) (map (atomIn m) (drop i (take count bytes))) (take v rooms) live kept
 
--- from an index on: the position there, and those behind it
-pub next-position : {A : Type 0} (f : ℕ → A) (count i : ℕ) (positions : List ℕ) → i < count → count ≤ length positions
-    → map f (drop i (take count positions)) ≡ f (getD positions i 0) ∷ map f (drop (i + 1) (take count positions))
-next-position f count i positions h l =
-    ap (map f) (drop-cons (take count positions) i 0 (omega (arith, length-take count positions)))
-    ∙ ap₂ (λ (p k : ℕ). f p ∷ map f (drop k (take count positions))) (getD-take count positions i 0 h) (sym (add-one i))
+module _ {v count : ℕ} {bytes : List ℕ} (positions : Positions v count bytes) {i : ℕ} (there : i < count) (rooms : List ℕ) (m : ℕ)
+    {shared : ℕ} (meets : shared ≡ common (getD rooms (getD bytes i 0 - 1) 0) m) {live kept : ℕ} (scanned : Named m v count bytes i rooms live kept) where
+  abbrev p : ℕ
+  p = getD bytes i 0
 
--- from the end on there is no position
-pub no-position : {A : Type 0} (f : ℕ → A) (count i : ℕ) (positions : List ℕ) → count ≤ i → map f (drop i (take count positions)) ≡ []
-no-position f count i positions h =
-    let short : length (take count positions) ≤ i = omega (arith, length-take count positions) in
-    ap (map f) (drop-of-length-le (take count positions) short)
+  fits : PositionFits v p
+  fits = position-fits positions i there
 
--- the position at an index fits
-pub position-fits : (v count i : ℕ) (positions : List ℕ) → PositionsFit v (take count positions) → i < count → count ≤ length positions
-    → (1 ≤ getD positions i 0) × (getD positions i 0 ≤ v)
-position-fits v count i positions fit h l =
-    subst (λ (p : ℕ). (1 ≤ p) × (p ≤ v)) (getD-take count positions i 0 h)
-    (every-at-place (λ p. (1 ≤ p) × (p ≤ v)) (take count positions) i fit (omega (arith, length-take count positions)))
+  next : map (atomIn m) (drop i (take count bytes)) ≡ atomIn m p ∷ map (atomIn m) (drop (i + 1) (take count bytes))
+  next = ap (map (atomIn m)) (front-on count i bytes (positions .there) there)
+
+  shares : shared ≡ common (roomAt (take v rooms) (atomIn m p .position)) (atomIn m p .set)
+  unfolding atomIn
+  shares = meets ∙ meets-front v p m rooms (fits .0) (fits .1)
+
+  -- a position whose room shares nothing with the set is passed over
+  pub named-passes : shared ≡ 0 → Named m v count bytes (i + 1) rooms live kept
+  named-passes none = scan-passes scanned next shares none
+
+  -- the first one whose room does, and the same again, is kept
+  pub named-meets : (kept ≡ 0) ⊎ (p - 1 ≡ live) → Named m v count bytes (i + 1) rooms (p - 1) (union kept shared)
+  unfolding atomIn
+  named-meets alone = scan-meets scanned next shares (fits .0) alone
+
+  -- another one makes several, and nothing changes
+  pub named-several : (kept ≡ 0 → ⊥) → (p - 1 ≡ live → ⊥) → (shared ≡ 0 → ⊥) → Leaves lookPart (oneOf (anyIn m count bytes)) v rooms true rooms
+  unfolding atomIn
+  named-several has other meet = leaves-same lookPart (oneOf (anyIn m count bytes)) v rooms (λ place. scan-several scanned next shares place (fits .0) has other meet)
+
+-- behind the last position
+module _ (m v count i : ℕ) (bytes rooms : List ℕ) {live kept : ℕ} (scanned : Named m v count bytes i rooms live kept) (past : count ≤ i) where
+  none-left : map (atomIn m) (drop i (take count bytes)) ≡ []
+  none-left = ap (map (atomIn m)) (front-end count i bytes past)
+
+  -- where none was met the clause is dead
+  pub named-dead : kept ≡ 0 → (after : List ℕ) → Leaves lookPart (oneOf (anyIn m count bytes)) v rooms false after
+  named-dead none after = leaves-dead lookPart (oneOf (anyIn m count bytes)) v rooms (λ place. scan-dead scanned none-left place none)
+
+  -- else the one room is cut down to what was kept
+  pub named-cut : (kept ≡ 0 → ⊥) → Leaves lookPart (oneOf (anyIn m count bytes)) v rooms true (set rooms live kept)
+  named-cut has = leaves-set lookPart (oneOf (anyIn m count bytes)) v rooms live kept (scan-there scanned has) (λ place. scan-cuts scanned none-left place has)
+
+-- ---- the values that are left
 
 -- the values of a set that is not empty: the smallest, then the others
 pub next-value : {A : Type 0} (f : ℕ → A) (m rest : ℕ) → m < 2 ^ 32 → (m ≡ 0 → ⊥) → rest ≡ others m
@@ -89,32 +112,14 @@ no-value f m e = ap (λ (k : ℕ). map f (values k)) e ∙ ap (map f) values-of-
 
 -- ---- an equality
 
--- the positions behind the set of an equality, of the part of the content that is lent
-pub positions-part : (len v : ℕ) (content : List ℕ) → len ≤ length content → v ≤ 64 → PositionsFit v (take (len - 4) (drop 4 content))
-    → (len - 4 ≤ length (take (length content - 4) (drop 4 content))) × (v ≤ 64) × PositionsFit v (take (len - 4) (take (length content - 4) (drop 4 content)))
-positions-part len v content h l fit = (
-  omega (arith, length-drop 4 content, ap length (rest-part 4 content)),
-  l,
-  subst (λ (part : List ℕ). PositionsFit v (take (len - 4) part)) (sym (rest-part 4 content)) fit,
-)
-
--- After the clauses of the positions were looked at.
-module _ (len m v : ℕ) (content positions start rooms : List ℕ) (r : Bool) (here : m ≡ setAt content 0) (behind : positions ≡ drop 4 content)
-    (look : (place : ℕ) → Looked (lookClauses place (map (λ p. atomIn m p ∷ []) (take (len - 4) positions)) (take v start)) r rooms (drop v start)) where
-  -- the clauses of the equality: those of the positions, then those of the values
-  equality-split : clausesOf (ruleOf Equality len content)
-      ≡ map (λ p. atomIn m p ∷ []) (take (len - 4) positions) ++ map (λ x. map (atomIn (single x)) (take (len - 4) positions)) (values m)
-  unfolding clausesOf ruleOf equalityClauses
-  equality-split = sym (ap₂ (λ (k : ℕ) (ps : List ℕ). equalityClauses k (take (len - 4) ps)) here behind)
-
-  -- a dead look at those of the positions is a dead look at the equality
-  pub equality-dead : r ≡ false → (place : ℕ) → Looked (lookRule place (ruleOf Equality len content) (take v start)) false rooms (drop v start)
-  unfolding lookRule
-  equality-dead f = left-dead _ _ (left-all _ v start) equality-split rooms look f rooms
-
-  -- else the look at those of the values decides
-  pub equality-then : r ≡ true → (q : Bool) (after : List ℕ)
-      → ((place : ℕ) → Looked (lookClauses place (map (λ x. map (atomIn (single x)) (take (len - 4) positions)) (values m)) (take v rooms)) q after (drop v rooms))
-      → (place : ℕ) → Looked (lookRule place (ruleOf Equality len content) (take v start)) q after (drop v start)
-  unfolding lookRule
-  equality-then t q after more = left-last q after (left-then _ _ (left-all _ v start) equality-split rooms look t) more
+-- a look at it: at the clauses of the positions, then at those of the values
+pub equality-left : (len m v : ℕ) (content positions rooms : List ℕ) → m ≡ setAt content 0 → positions ≡ drop 4 content
+    → LeftToLook lookParts lookRule (ruleOf Equality len content)
+    (eachInside m (take (len - 4) positions) ∷ eachTaken m (take (len - 4) positions) ∷ []) v rooms rooms
+unfolding partsOf ruleOf equalityParts
+equality-left len m v content positions rooms here behind =
+    left-all
+    (λ place box.
+    ap₂ (λ (k : ℕ) (ps : List ℕ). lookParts place (equalityParts k (take (len - 4) ps)) box) (sym here) (sym behind)
+    ∙ append-in-turn (lookPart place) (eachInside m (take (len - 4) positions)) (eachTaken m (take (len - 4) positions)) box)
+    v rooms

@@ -1,44 +1,30 @@
--- Laws of a look at one field of a sound file: what its rule asks of the bytes behind its head, and that a look by those bytes is a look at the rule. Assumes nothing.
-use mathlib.Core.Path.{_≡_, sym, ap, _∙_, subst}
-use mathlib.Core.Bool.{Bool}
+-- Laws of a look at one field of a sound file: a look by the bytes behind its head is a look at its rule. Assumes nothing.
+use mathlib.Core.Path.{_≡_, sym, subst}
+use mathlib.Core.Bool.{Bool, true, false}
 use mathlib.Core.List.{List}
-use Prim.Native.Nat.{ℕ, _+_, _-_, _/_}
-use lib.ListN.{length, take, drop}
-use Rattle.rules.specs.declared.field.Atom.{Atom}
+use Prim.Native.Nat.{ℕ, _/_}
+use lib.ListN.{take, drop}
 use Rattle.rules.specs.declared.field.Head.{Head}
 use Rattle.rules.specs.declared.field.Tag.{Tag}
 use Rattle.rules.specs.declared.field.Tag.the-variants.{Clause}
-use Rattle.rules.specs.Rules.{Rule, clause}
-use Rattle.rules.specs.Clauses.{clausesOf}
-use Rattle.rules.specs.Reading.{atomsOf, ruleOf, ruleAt}
-use Rattle.steps.specs.Shrinking.{Look, lookClause, lookRule}
-use Rattle.boxes.specs.Looks.{Looked}
-use Rattle.boxes.proofs.LooksInTurn.{look-one}
-use Rattle.rules.proofs.HeadedFields.{partFrom, Headed, rule-there}
+use Rattle.rules.specs.Rules.{Rule, Field}
+use Rattle.rules.specs.Parts.{oneOf, partsOf}
+use Rattle.rules.specs.Reading.{tagOf, atomsOf, ruleOf, ruleAt}
+use Rattle.rules.proofs.Reading.WalkLaws.{FieldHere}
+use Rattle.steps.specs.Shrinking.{Look, lookClause, lookPart, lookRule}
+use Rattle.clauses.specs.Looks.{AfterLook, Leaves}
+use Rattle.boxes.proofs.LooksInTurn.{in-turn-one}
 
--- ---- a look at a rule that is a clause
+module _ {v at : ℕ} {s : List ℕ} {left : List Field} {head : Head} {content : List ℕ} (field : FieldHere s v at left head content) {rooms after : List ℕ} {r : Bool} where
+  -- what a look at the rule that a content of this kind is leaves, a look at the field's rule leaves
+  pub look-there : (kind : Tag) → tagOf (head .tag) ≡ kind → Leaves lookRule (ruleOf kind (head .length) content) v rooms r after
+      → Leaves lookRule (ruleAt (drop at s)) v rooms r after
+  look-there kind e h = subst (λ (rule : Rule). Leaves lookRule rule v rooms r after) (sym (field .rule kind e)) h
 
--- a look at a clause as a rule is a look at the clause
-rule-clause : (place : ℕ) (atoms : List Atom) (box : List ℕ) → lookRule place (clause atoms) box ≡ lookClause place atoms box
-unfolding lookRule clausesOf
-rule-clause place atoms box = look-one place atoms box
-
--- ---- the field at a place
-
-module _ {v at : ℕ} {s : List ℕ} {head : Head} (headed : Headed v at s head) where
-  module _ (rooms after : List ℕ) (r : Bool) (place : ℕ) where
-    -- a look at the rule that a content of this kind is, is a look at the field's rule
-    pub look-there : (kind : Tag) → head .kind ≡ kind → Looked (lookRule place (ruleOf kind (head .length) (partFrom (at + 3) s)) (take v rooms)) r after (drop v rooms)
-        → Looked (lookRule place (ruleAt (drop at s)) (take v rooms)) r after (drop v rooms)
-    look-there kind e h =
-        let same = rule-there headed ∙ ap (λ (k : Tag). ruleOf k (head .length) (partFrom (at + 3) s)) e in
-        subst (λ (rule : Rule). Looked (lookRule place rule (take v rooms)) r after (drop v rooms)) (sym same) h
-
-    -- a look at a clause is a look at the field's rule
-    pub look-clause-there : head .kind ≡ Clause
-        → Looked (lookClause place (atomsOf (head .length / 5) (partFrom (at + 3) s)) (take v rooms)) r after (drop v rooms)
-        → Looked (lookRule place (ruleAt (drop at s)) (take v rooms)) r after (drop v rooms)
-    unfolding ruleOf
-    look-clause-there e h =
-        look-there Clause e
-        (subst (λ (l : Look). Looked l r after (drop v rooms)) (sym (rule-clause place (atomsOf (head .length / 5) (partFrom (at + 3) s)) (take v rooms))) h)
+  -- and so does a look at its clause
+  pub look-clause-there : tagOf (head .tag) ≡ Clause → Leaves lookClause (atomsOf (head .length / 5) content) v rooms r after
+      → Leaves lookRule (ruleAt (drop at s)) v rooms r after
+  unfolding ruleOf partsOf
+  look-clause-there e h =
+      look-there Clause e
+      record { by = λ place. subst (λ (l : Look). AfterLook (λ _. false) true l r after (drop v rooms)) (sym (in-turn-one (lookPart place) (oneOf (atomsOf (head .length / 5) content)) (take v rooms))) (h .by place) }

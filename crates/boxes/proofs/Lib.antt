@@ -1,13 +1,6 @@
-pub mod AtomsInTurn
 pub mod EqualityLooks
 pub mod FieldLooks
 pub mod LooksInTurn
-pub mod RoomLists
-pub mod ScanLaws
-pub mod SettledClauses
-pub mod SettledEqualities
-pub mod SettledFields
+pub mod SameRooms
 pub mod ShrinkRounds
-pub mod TestsInARow
 pub mod Unique
-pub mod UnitedLaws

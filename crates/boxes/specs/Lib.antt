@@ -1,4 +1,2 @@
-pub mod Looks
-pub mod Rooms
-pub mod Scans
+pub mod Rounds
 pub mod Promise

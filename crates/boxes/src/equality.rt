@@ -1,16 +1,16 @@
 // Looking at a set equality, as the clauses that it means: for each named position "it is in M",
 // then for each value of M, rising, "one of the named positions is in it". The contracts cite
-// specs/Looks.antt and the search of `steps`.
+// Looks.antt of `clauses`, Parts.antt of `rules` and the search of `steps`.
 ghost use mathlib.Core.List.{_∷_, [], map};
-ghost use Prim.Native.Nat.{ℕ, _-_, _≤_, _<_};
+ghost use Prim.Native.Nat.{_-_, _≤_, _<_};
 ghost use lib.ListN.{length, take, drop};
-ghost use Rattle.sets.specs.Sets.{single, values};
-ghost use Rattle.rules.specs.Clauses.{atomIn};
+ghost use Rattle.sets.specs.Sets.{single};
 ghost use Rattle.rules.specs.Reading.{ruleOf};
 ghost use Rattle.rules.specs.declared.field.Tag.the-variants.{Equality};
-ghost use Rattle.steps.specs.Shrinking.{lookClauses, lookRule};
-ghost use Rattle.boxes.specs.Looks.{Looked};
-ghost use Rattle.rules.specs.Contents.{PositionsFit};
+ghost use Rattle.steps.specs.Shrinking.{lookPart, lookParts, lookRule};
+ghost use Rattle.rules.specs.Parts.{oneOf, atomIn, eachInside, eachTaken};
+ghost use Rattle.clauses.specs.Looks.{Leaves};
+ghost use Rattle.rules.specs.Contents.{Positions};
 use rules::field::set_at;
 use sets::Room;
 
@@ -22,7 +22,7 @@ pub(crate) fn look_single(
     v: usize,
 ) -> bool
     requires { ⌜ (1 ≤ position) × (position ≤ v) × (v ≤ 64) ⌝ }
-    ensures { λ r. ⌜ ((place : ℕ) → Looked (lookClauses place ((atomIn mask position ∷ []) ∷ []) (take v (now (rooms .entry)))) r (now (rooms .exit)) (drop v (now (rooms .entry)))) ⌝ }
+    ensures { λ r. ⌜ Leaves lookPart (oneOf (atomIn mask position ∷ [])) v (now (rooms .entry)) r (now (rooms .exit)) ⌝ }
 {
     let i = position as usize - 1;
     let room = Room { mask: rooms[i] };
@@ -42,8 +42,8 @@ pub(crate) fn look_inside(
     mask: u32,
     v: usize,
 ) -> bool
-    requires { ⌜ (count ≤ length (now positions)) × (v ≤ 64) × PositionsFit v (take count (now positions)) ⌝ }
-    ensures { λ r. ⌜ ((place : ℕ) → Looked (lookClauses place (map (λ p. atomIn mask p ∷ []) (take count (now (positions .entry)))) (take v (now (rooms .entry)))) r (now (rooms .exit)) (drop v (now (rooms .entry)))) ⌝ }
+    requires { ⌜ Positions v count (now positions) ⌝ }
+    ensures { λ r. ⌜ Leaves lookParts (eachInside mask (take count (now (positions .entry)))) v (now (rooms .entry)) r (now (rooms .exit)) ⌝ }
 {
     let mut i = 0;
     while i < count {
@@ -65,8 +65,8 @@ pub(crate) fn look_any(
     mask: u32,
     v: usize,
 ) -> bool
-    requires { ⌜ (count ≤ length (now positions)) × (v ≤ 64) × PositionsFit v (take count (now positions)) ⌝ }
-    ensures { λ r. ⌜ ((place : ℕ) → Looked (lookClauses place (map (atomIn mask) (take count (now (positions .entry))) ∷ []) (take v (now (rooms .entry)))) r (now (rooms .exit)) (drop v (now (rooms .entry)))) ⌝ }
+    requires { ⌜ Positions v count (now positions) ⌝ }
+    ensures { λ r. ⌜ Leaves lookPart (oneOf (map (atomIn mask) (take count (now (positions .entry))))) v (now (rooms .entry)) r (now (rooms .exit)) ⌝ }
 {
     let mut live = 0;
     let mut kept = 0;
@@ -101,8 +101,8 @@ pub(crate) fn look_values(
     mask: u32,
     v: usize,
 ) -> bool
-    requires { ⌜ (count ≤ length (now positions)) × (v ≤ 64) × PositionsFit v (take count (now positions)) ⌝ }
-    ensures { λ r. ⌜ ((place : ℕ) → Looked (lookClauses place (map (λ x. map (atomIn (single x)) (take count (now (positions .entry)))) (values mask)) (take v (now (rooms .entry)))) r (now (rooms .exit)) (drop v (now (rooms .entry)))) ⌝ }
+    requires { ⌜ Positions v count (now positions) ⌝ }
+    ensures { λ r. ⌜ Leaves lookParts (eachTaken mask (take count (now (positions .entry)))) v (now (rooms .entry)) r (now (rooms .exit)) ⌝ }
 {
     let mut left = mask;
     while left != 0 {
@@ -111,7 +111,7 @@ pub(crate) fn look_values(
         if !look_any(rooms, positions, count, one.mask, v) {
             return false;
         }
-        left = open.common(one.complement(Room::VALUES)).mask;
+        left = open.others().mask;
     }
     true
 }
@@ -123,8 +123,8 @@ pub(crate) fn look_equality(
     len: usize,
     v: usize,
 ) -> bool
-    requires { ⌜ (4 ≤ len) × (len ≤ length (now content)) × (v ≤ 64) × PositionsFit v (take (len - 4) (drop 4 (now content))) ⌝ }
-    ensures { λ r. ⌜ ((place : ℕ) → Looked (lookRule place (ruleOf Equality len (now (content .entry))) (take v (now (rooms .entry)))) r (now (rooms .exit)) (drop v (now (rooms .entry)))) ⌝ }
+    requires { ⌜ (4 ≤ len) × (len ≤ length (now content)) × Positions v (len - 4) (drop 4 (now content)) ⌝ }
+    ensures { λ r. ⌜ Leaves lookRule (ruleOf Equality len (now (content .entry))) v (now (rooms .entry)) r (now (rooms .exit)) ⌝ }
 {
     let mask = set_at(content, 0);
     let positions = &content[4..];

@@ -1,20 +1,24 @@
 // Shrinking a box: rounds over all fields of a sound file, read from the input's own bytes, until
-// one changes nothing or finds a dead field. The contracts cite specs/Rooms.antt and
-// specs/Promise.antt.
+// one changes nothing or finds a dead field. The contracts cite specs/Rounds.antt and
+// specs/Promise.antt, and Looks.antt of `clauses`.
 ghost use mathlib.Core.Path.{_≡_};
-ghost use Prim.Native.Nat.{ℕ, _+_, _≤_, _<_};
+ghost use mathlib.Core.List.{List};
+ghost use Prim.Native.Nat.{_≤_, _<_};
 ghost use lib.ListN.{length, take, drop};
-ghost use Rattle.rules.specs.Reading.{fieldFault, ruleAt};
+ghost use Rattle.rules.specs.Rules.{Field};
+ghost use Rattle.rules.specs.Reading.{ruleAt};
 ghost use Rattle.steps.specs.Boxes.{Rooms};
-ghost use Rattle.steps.specs.Shrinking.{lookRule, round, sameRooms};
-ghost use Rattle.boxes.specs.Looks.{Looked};
-ghost use Rattle.boxes.specs.Rooms.{Rounded};
-ghost use Rattle.rules.specs.Sound.{SoundInput, fieldsIn};
+ghost use Rattle.steps.specs.Shrinking.{lookRule, sameRooms};
+ghost use Rattle.clauses.specs.Looks.{Leaves};
+ghost use Rattle.boxes.specs.Rounds.{Rounded};
+ghost use Rattle.rules.specs.Sound.{SoundInput};
+ghost use Rattle.rules.specs.Walk.{Walk};
 ghost use Rattle.boxes.specs.Promise.{Shrinks};
-use super::clause::look_atoms;
 use super::equality::look_equality;
+use clauses::look::look_atoms;
 use rules::field::Tag;
 use rules::field::head_at;
+use rules::field::tag_of;
 use sets::Room;
 
 // What shrinking finds: the box lives, or a field with this place is dead.
@@ -36,11 +40,11 @@ pub(crate) fn look_field(
     v: usize,
     rooms: &mut [u32; Room::POSITIONS],
 ) -> bool
-    requires { ⌜ (at < length (now input)) × (v ≤ 64) × ((n : ℕ) × (fieldFault v n (drop at (now input)) ≡ 0)) ⌝ }
-    ensures { λ r. ⌜ ((place : ℕ) → Looked (lookRule place (ruleAt (drop at (now (input .entry)))) (take v (now (rooms .entry)))) r (now (rooms .exit)) (drop v (now (rooms .entry)))) ⌝ }
+    requires { ⌜ (at < length (now input)) × ((left : List Field) × Walk (now input) v at left) ⌝ }
+    ensures { λ r. ⌜ Leaves lookRule (ruleAt (drop at (now (input .entry)))) v (now (rooms .entry)) r (now (rooms .exit)) ⌝ }
 {
     let head = head_at(input, at);
-    let kind = head.kind;
+    let kind = tag_of(head.tag);
     let len = head.length;
     let from = at + 3;
     let content = &input[from..];
@@ -55,7 +59,7 @@ pub(crate) fn look_field(
 // One round: looks at every field in the order of the file.
 pub(crate) fn look_round(input: &[u8], v: usize, rooms: &mut [u32; Room::POSITIONS]) -> Verdict
     requires { ⌜ SoundInput (now input) v ⌝ }
-    ensures { λ r. ⌜ Rounded (round (fieldsIn (now (input .entry))) (take v (now (rooms .entry)))) r (now (rooms .exit)) (drop v (now (rooms .entry))) ⌝ }
+    ensures { λ r. ⌜ Rounded (now (input .entry)) v (now (rooms .entry)) r (now (rooms .exit)) ⌝ }
 {
     let mut at = 5;
     while at < input.len() {

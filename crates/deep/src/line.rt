@@ -1,26 +1,15 @@
 // The line that is printed for a reply.
 use libc::STDOUT_FILENO;
-use planner::plan::Reply;
+use searching::reply::Reply;
 
 // Prints the reply's number, place, splits and dead ends, and then every byte of the answer.
 pub(crate) fn show(reply: Reply, answer: &[u8; 64]) {
-    match reply {
-        Reply::Plan { splits, dead_ends } => numbers(0, 0, splits, dead_ends),
-        Reply::None { splits, dead_ends } => numbers(1, 0, splits, dead_ends),
-        Reply::Undecided { splits, dead_ends } => numbers(2, 0, splits, dead_ends),
-        Reply::Stalled { splits, dead_ends } => numbers(21, 0, splits, dead_ends),
-        Reply::Refused { number, place } => numbers(number as u64, place as u64, 0, 0),
-    }
+    io::print_decimal(STDOUT_FILENO, reply.number as u64);
+    spaced(reply.place as u64);
+    spaced(reply.splits);
+    spaced(reply.dead_ends);
     values(answer);
     io::write_all(STDOUT_FILENO, b"\n");
-}
-
-// Four numbers with single spaces.
-fn numbers(number: u64, place: u64, splits: u64, dead_ends: u64) {
-    io::print_decimal(STDOUT_FILENO, number);
-    spaced(place);
-    spaced(splits);
-    spaced(dead_ends);
 }
 
 // The 64 bytes as numbers, each after a space.

@@ -1,10 +1,7 @@
-pub mod DigitLaws
-pub mod GrownLaws
+pub mod PositionLaws
 pub mod PrintedApart
 pub mod PrintedExamples
 pub mod ReadBack
-pub mod ReasonTold
-pub mod SpacedLaws
 pub mod TextExamples
-pub mod WordLaws
+pub mod TextLaws
 pub mod Unique

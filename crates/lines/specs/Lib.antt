@@ -1,5 +1,3 @@
 pub mod Text
-pub mod Grown
 pub mod Printed
 pub mod ReadBack
-pub mod Words

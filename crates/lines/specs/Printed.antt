@@ -4,10 +4,11 @@ use mathlib.Core.List.{List}
 use Prim.Native.Nat.{ℕ}
 use lib.ListN.{take, replicate}
 use Rattle.rules.specs.Reading.{Reading, sound, refused, reading}
-use Rattle.planner.specs.declared.plan.Reply.{Reply}
+use Rattle.searching.specs.declared.reply.Reply.{Reply}
 use Rattle.planner.specs.Promise.{Planned}
-use Rattle.lines.specs.declared.Text.{Text}
-use Rattle.lines.specs.Text.{textOf, lineOf}
+use Rattle.texts.specs.declared.Text.{Text}
+use Rattle.texts.specs.Grown.{lineOf}
+use Rattle.lines.specs.Text.{textOf}
 
 -- the text is that of a reply, where the first v values are a plan's
 abbrev pub Shown : Reply → List ℕ → ℕ → Text → Type 0

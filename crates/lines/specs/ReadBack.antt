@@ -1,40 +1,13 @@
--- Reading a printed text back: its words, and the number that decimal digits are. The theorems on what a text tells cite these. Assumes nothing.
-use mathlib.Core.Bool.{Bool, true, false, _||_}
-use mathlib.Core.List.{List, [], _∷_, map}
-use Prim.Native.Nat.{ℕ, _+_, _-_, _*_}
+-- Reading a printed text back: the reply and the values that its words are. The theorems on what a text tells cite these. Assumes nothing.
+use mathlib.Core.List.{List, [], map}
+use Prim.Native.Nat.{ℕ}
 use lib.Dec.{eqb}
 use lib.ListN.{getD, drop}
+use Rattle.texts.specs.ReadBack.{numberIn}
 use Rattle.steps.specs.Shrinking.{ifTest}
-use Rattle.planner.specs.declared.plan.Reply.{Reply}
-use Rattle.planner.specs.declared.plan.Reply.the-variants.{Plan, None, Undecided, Refused}
-
--- the number that the digits are, where a number stands before them
-unfoldable pub digitsAfter : ℕ → List ℕ → ℕ
-digitsAfter n [] = n
-digitsAfter n (d ∷ ds) = digitsAfter (n * 10 + (d - 48)) ds
-
--- the number that decimal digits are
-unfoldable pub numberIn : List ℕ → ℕ
-numberIn ds = digitsAfter 0 ds
-
--- whether a byte ends a word: a space or the end of a line
-unfoldable pub endsWord : ℕ → Bool
-endsWord b = eqb b 32 || eqb b 10
-
--- a byte in front of the first word
-unfoldable pub intoFirst : ℕ → List (List ℕ) → List (List ℕ)
-intoFirst b [] = (b ∷ []) ∷ []
-intoFirst b (word ∷ words) = (b ∷ word) ∷ words
-
--- a byte in front of words: an end of its own where it ends a word
-unfoldable pub wordsNext : Bool → ℕ → List (List ℕ) → List (List ℕ)
-wordsNext true b words = [] ∷ words
-wordsNext false b words = intoFirst b words
-
--- the words of a text, each up to the byte that ends it
-unfoldable pub wordsIn : List ℕ → List (List ℕ)
-wordsIn [] = []
-wordsIn (b ∷ bytes) = wordsNext (endsWord b) b (wordsIn bytes)
+use Rattle.steps.specs.Reply.{ended, refusal}
+use Rattle.searching.specs.declared.reply.Reply.{Reply}
+use Rattle.searching.specs.Answered.{told}
 
 -- the first byte of a word
 unfoldable pub firstByte : List ℕ → ℕ
@@ -46,10 +19,10 @@ replyIn words =
     let letter = firstByte (getD words 0 []) in
     let first = numberIn (getD words 1 []) in
     let second = numberIn (getD words 2 []) in
-    ifTest (eqb letter 80) (Plan first second) λ _.
-    ifTest (eqb letter 78) (None first second) λ _.
-    ifTest (eqb letter 85) (Undecided first second) λ _.
-    Refused first second
+    ifTest (eqb letter 80) (told (ended 0 first second)) λ _.
+    ifTest (eqb letter 78) (told (ended 1 first second)) λ _.
+    ifTest (eqb letter 85) (told (ended 2 first second)) λ _.
+    told (refusal first second)
 
 -- the numbers behind the first three words
 unfoldable pub numbersIn : List (List ℕ) → List ℕ

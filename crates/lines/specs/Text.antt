@@ -1,56 +1,23 @@
 -- The text that the program prints for a reply. The contracts of `src/` cite these. Assumes nothing.
-use mathlib.Core.Bool.{cond}
 use mathlib.Core.List.{List, [], _∷_, _++_}
-use Prim.Native.Nat.{ℕ, zero, suc, _+_, _-_, _/_, _%_}
-use Prim.Native.Char.{code}
-use Prim.Native.String as string
-use Prim.Native.String.{String}
-use lib.Dec.{ltb}
-use lib.ListN.{length, replicate}
-use Rattle.planner.specs.declared.plan.Reply.{Reply}
-use Rattle.planner.specs.declared.plan.Reply.the-variants.{Plan, None, Undecided, Stalled, Refused}
-use Rattle.lines.specs.declared.Text.{Text}
-
--- the bytes of a word in ASCII
-unfoldable pub bytesOf : String → List ℕ
-bytesOf string.[] = []
-bytesOf (string._∷_ c cs) = code c ∷ bytesOf cs
-
--- n in decimal digits, as bytes, most significant first and with no leading zeros; right where k digits are enough
-unfoldable pub digits : ℕ → ℕ → List ℕ
-digits zero n = []
-digits (suc k) n = cond (ltb n 10) ((48 + n) ∷ []) (digits k (n / 10) ++ ((48 + n % 10) ∷ []))
-
--- a number in decimal; right below 10 ^ 20
-unfoldable pub decimal : ℕ → List ℕ
-decimal n = digits 20 n
-
--- numbers in decimal, a space before each
-unfoldable pub behind : List ℕ → List ℕ
-behind [] = []
-behind (x ∷ xs) = 32 ∷ (decimal x ++ behind xs)
-
--- numbers in decimal, with single spaces between
-unfoldable pub spaced : List ℕ → List ℕ
-spaced [] = []
-spaced (x ∷ xs) = decimal x ++ behind xs
-
--- the end of a line
-unfoldable pub newline : List ℕ
-newline = 10 ∷ []
+use Prim.Native.Nat.{ℕ}
+use lib.Dec.{eqb}
+use Rattle.steps.specs.Shrinking.{ifTest}
+use Rattle.searching.specs.declared.reply.Reply.{Reply}
+use Rattle.texts.specs.Bytes.{bytesOf, behind, spaced, newline}
 
 -- the line of a word and two numbers
 unfoldable pub firstLine : List ℕ → ℕ → ℕ → List ℕ
 firstLine word a b = word ++ (behind (a ∷ b ∷ []) ++ newline)
 
--- what is printed for a reply, where the values are a plan's
-unfoldable pub textOf : Reply → List ℕ → List ℕ
-textOf (Plan splits deadEnds) values = firstLine (bytesOf "PLAN") splits deadEnds ++ (spaced values ++ newline)
-textOf (None splits deadEnds) values = firstLine (bytesOf "NONE") splits deadEnds
-textOf (Undecided splits deadEnds) values = firstLine (bytesOf "UNDECIDED") splits deadEnds
-textOf (Stalled splits deadEnds) values = firstLine (bytesOf "REFUSED") 21 0
-textOf (Refused number place) values = firstLine (bytesOf "REFUSED") number place
+-- the line of a word and the counts of a reply
+abbrev pub countLine : List ℕ → Reply → List ℕ
+countLine word r = firstLine word (r .splits) (r .«dead_ends»)
 
--- the bytes in front of zeros, and their number
-unfoldable pub lineOf : List ℕ → Text
-lineOf bytes = record { bytes = bytes ++ replicate (2048 - length bytes) 0; len = length bytes }
+-- what is printed for a reply, by its number, where the values are a plan's
+unfoldable pub textOf : Reply → List ℕ → List ℕ
+textOf r values =
+    ifTest (eqb (r .number) 0) (countLine (bytesOf "PLAN") r ++ (spaced values ++ newline)) λ _.
+    ifTest (eqb (r .number) 1) (countLine (bytesOf "NONE") r) λ _.
+    ifTest (eqb (r .number) 2) (countLine (bytesOf "UNDECIDED") r) λ _.
+    firstLine (bytesOf "REFUSED") (r .number) (r .place)

@@ -3,12 +3,12 @@
 ghost use mathlib.Core.Path.{_≡_};
 ghost use Rattle.rules.specs.Reading.{reading};
 ghost use Rattle.lines.specs.Printed.{Printed, positionsOf};
-use super::Text;
 use super::reply::text;
 use planner::plan::plan;
-use rules::check::Checked;
-use rules::check::check;
 use sets::Room;
+use sound::check::Checked;
+use sound::check::check;
+use texts::Text;
 
 // The splits that the program allows.
 const ALLOWANCE: u64 = 100_000;

@@ -1,12 +1,12 @@
 // The program: takes a file of rules from standard input, prints the reply with 100,000 splits allowed,
 // and says on standard error why a file is refused. What is printed is computed from the bytes that were
-// read by `answer` and `reason` of `lines`, which are proved. Where a read or the write of the reply fails,
-// one line on standard error says so; where a read failed nothing is printed.
+// read by `answer` of `lines` and `reason` of `reasons`, which are proved. Where a read or the write of
+// the reply fails, one line on standard error says so; where a read failed nothing is printed.
 use libc::STDERR_FILENO;
 use libc::STDIN_FILENO;
 use libc::STDOUT_FILENO;
 use lines::answer::answer;
-use lines::reason::reason;
+use reasons::reason;
 use streams::Taken;
 use streams::put;
 use streams::take_whole;

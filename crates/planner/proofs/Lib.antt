@@ -1,9 +1,6 @@
-pub mod AnsweredLaws
-pub mod BufferLaws
-pub mod NoneCounted
+pub mod EveryReply
 pub mod PromiseLaws
 pub mod ReplyLaws
-pub mod ReplyLimits
-pub mod SearchTurns
 pub mod StarredPlanned
+pub mod StartRooms
 pub mod Unique

@@ -1,127 +1,108 @@
 -- The promise follows from the one reply and the memory: demands 1, 2 and 3 of every call. Assumes nothing.
-use mathlib.Core.Path.{_≡_, refl, sym, ap, _∙_, subst}
-use mathlib.Core.List.{List, _++_}
+use mathlib.Core.Path.{_≡_, sym, ap, _∙_, subst}
+use mathlib.Core.List.{List, []}
 use mathlib.Core.Logic.{_↔_, _⊎_, inl, inr, ⊎-elim}
-use Prim.Native.Nat.{ℕ, _-_, _^_, _≤_, _<_}
+use Prim.Native.Nat.{ℕ, _-_, _≤_, _<_}
+use native.Mathlib.Decide.{ℕ-discrete}
 use native.Mathlib.Omega.{arith}
 use lib.Dec.{T}
 use lib.ListN.{length, getD, take, drop, List·getD-append}
 use lib.Seq.{take-at}
-use Rattle.rules.specs.Lists.{Every}
+use Rattle.lists.specs.Lists.{Every}
 use Rattle.rules.specs.Rules.{File}
 use Rattle.rules.specs.Meaning.{Plan, FirstPlan}
 use Rattle.rules.specs.Writing.{Within}
-use Rattle.rules.proofs.RoundTrip.{written-of-read}
-use Rattle.steps.specs.Search.{Answer, plan, none, undecided, stalled}
-use Rattle.steps.specs.Special.{special}
-use Rattle.steps.specs.Reply.{numberOf, valuesOf, replied, planned, needed, replyOf}
+use Rattle.rules.proofs.Writing.RoundTrip.{written-of-read}
+use Rattle.lists.specs.Buffer.{over}
+use Rattle.lists.proofs.BufferLaws.{over-behind}
 use Rattle.steps.specs.Reply as steps
-use Rattle.steps.proofs.Demands.{plan-first, plan-exactly, none-exactly, undecided-exactly, splits-bound, special-decides, never-stalled}
-use Rattle.planner.specs.declared.plan.Reply.{Reply}
-use Rattle.planner.specs.Numbers.{Numbers, numbersOf, numbersGiven, Answered}
+use Rattle.steps.specs.Special.{special}
+use Rattle.steps.specs.Table.{planned, needed, replyOf}
+use Rattle.steps.proofs.Demands.{plan-first, plan-exactly, none-exactly, undecided-exactly, splits-bound, special-decides, number-decided}
+use Rattle.searching.specs.declared.reply.Reply.{Reply}
+use Rattle.searching.specs.Answered.{Answered}
 use Rattle.planner.specs.Promise.{Accepted, Planned}
-use Rattle.planner.proofs.ReplyLaws.{getD-behind, accepted-reply, number-of-plan, number-of-none, number-of-undecided, number-small, reply-silent, reply-refuses}
+use Rattle.planner.proofs.ReplyLaws.{accepted-reply, reply-refuses, reply-silent}
 
 module _ (input before after : List ℕ) (allowed : ℕ) (r : Reply) (bytes : Every (λ b. b < 256) input)
-    (answered : Answered (replyOf input (length before) allowed) r before after) (file : File) (accepted : Accepted input before allowed file) where
-  -- the file that was read is within the limits
-  within : Within file
-  within = written-of-read input bytes file (accepted .read) .1
+    (answered : Answered (replyOf input (length before) allowed) r before after) where
+  module _ (file : File) (accepted : Accepted input before allowed file) where
+    -- the file that was read is within the limits
+    within : Within file
+    within = written-of-read input bytes file (accepted .read) .1
 
-  -- the reply has the numbers of the file's search, and the buffer its values
-  numbers-found : numbersOf r ≡ numbersGiven (replied (planned file allowed))
-  numbers-found = answered .numbers ∙ ap numbersGiven (accepted-reply input before allowed file accepted)
+    -- the reply of the file's search is what is answered
+    abbrev given : steps.Reply
+    given = planned file allowed
 
-  number-found : numbersOf r .number ≡ numberOf (planned file allowed .answer)
-  unfolding replied
-  number-found = ap (λ (n : Numbers). n .number) numbers-found
+    found : Answered given r before after
+    found = subst (λ (g : steps.Reply). Answered g r before after) (accepted-reply input before allowed file accepted) answered
 
-  splits-found : numbersOf r .splits ≡ planned file allowed .splits
-  unfolding replied
-  splits-found = ap (λ (n : Numbers). n .splits) numbers-found
+    number-found : r .number ≡ given .number
+    number-found = ap (λ (q : Reply). q .number) (found .reply)
 
-  dead-ends-found : numbersOf r .deadEnds ≡ planned file allowed .deadEnds
-  unfolding replied
-  dead-ends-found = ap (λ (n : Numbers). n .deadEnds) numbers-found
+    splits-found : r .splits ≡ given .splits
+    splits-found = ap (λ (q : Reply). q .splits) (found .reply)
 
-  values-found : after ≡ valuesOf (planned file allowed .answer) ++ drop (length (valuesOf (planned file allowed .answer))) before
-  unfolding replied
-  values-found = answered .memory ∙ ap (λ (g : steps.Reply). g .values ++ drop (length (g .values)) before) (accepted-reply input before allowed file accepted)
+    -- a plan has v values
+    plan-long : r .number ≡ 0 → length (given .values) ≡ file .v
+    plan-long e = plan-first file within allowed (sym number-found ∙ e) .0 .0 .0
 
-  -- a plan has v values, and they stand in front
-  plan-found : (a : List ℕ) → planned file allowed .answer ≡ plan a → (length a ≡ file .v) × (after ≡ a ++ drop (length a) before)
-  unfolding valuesOf
-  plan-found a e = (plan-first file within allowed a e .0 .0 .0, subst (λ (x : Answer). after ≡ valuesOf x ++ drop (length (valuesOf x)) before) e values-found)
+    -- ---- the demands, one by one
 
-  -- no answer has more than v values
-  values-few : (x : Answer) → planned file allowed .answer ≡ x → length (valuesOf x) ≤ file .v
-  unfolding valuesOf
-  values-few (plan a) e = omega (arith, plan-found a e .0)
-  values-few none e = omega arith
-  values-few undecided e = omega arith
-  values-few stalled e = omega arith
+    kept-beyond : (i : ℕ) → file .v ≤ i → getD after i 0 ≡ getD before i 0
+    kept-beyond i h = rw (found .memory) (over-behind (given .values) before i 0 (few (ℕ-discrete (r .number) 0)))
+      where
+        few : Dec (r .number ≡ 0) → length (given .values) ≤ i
+        few (yes e) = omega (arith, plan-long e)
+        few (no ne) =
+            let silent : given .values ≡ [] =
+            ap (λ (g : steps.Reply). g .values) (sym (accepted-reply input before allowed file accepted))
+            ∙ reply-silent input (length before) allowed (λ e. ne (ap (λ (q : Reply). q .number) (answered .reply) ∙ e)) in
+            omega (arith, ap length silent)
 
-  -- ---- the demands, one by one
+    plan-found : (r .number ≡ 0) ↔ (((a : List ℕ) × Plan file a) × (needed file ≤ allowed))
+    plan-found = rw number-found (plan-exactly file within allowed)
 
-  kept-beyond : (i : ℕ) → file .v ≤ i → getD after i 0 ≡ getD before i 0
-  kept-beyond i h =
-      let few = values-few (planned file allowed .answer) refl in
-      rw values-found (getD-behind (valuesOf (planned file allowed .answer)) before i 0 (omega arith))
+    none-found : (r .number ≡ 1) ↔ (((a : List ℕ) → Plan file a → ⊥) × (needed file ≤ allowed))
+    none-found = rw number-found (none-exactly file within allowed)
 
-  decided-found : numbersOf r .number ≤ 2
-  decided-found = rw number-found (number-small (planned file allowed .answer) (never-stalled file within allowed))
+    undecided-found : (r .number ≡ 2) ↔ (allowed < needed file)
+    undecided-found = rw number-found (undecided-exactly file within allowed)
 
-  plan-found-exactly : (numbersOf r .number ≡ 0) ↔ (((a : List ℕ) × Plan file a) × (needed file ≤ allowed))
-  plan-found-exactly = simp (number-found, number-of-plan) (plan-exactly file within allowed)
+    first-found : r .number ≡ 0 → FirstPlan file (take (file .v) after)
+    first-found e =
+        rw (found .memory, take-at (given .values) (drop (length (given .values)) before) (file .v) (plan-long e)) (plan-first file within allowed (sym number-found ∙ e))
 
-  none-found-exactly : (numbersOf r .number ≡ 1) ↔ (((a : List ℕ) → Plan file a → ⊥) × (needed file ≤ allowed))
-  none-found-exactly = simp (number-found, number-of-none) (none-exactly file within allowed)
+    ladder-found : T (special file) → file .v ≤ allowed
+        → ((r .number ≡ 1) × (r .splits ≡ 0))
+        ⊎ ((r .number ≡ 0) × (r .«dead_ends» ≡ 0) × ((b : List ℕ) → Plan file b → (i : ℕ) → i < file .v → getD after i 0 ≤ getD b i 0))
+    ladder-found kind enough =
+        ⊎-elim (λ n. inl (number-found ∙ n .0, splits-found ∙ n .1))
+        (λ p. inr (
+          number-found ∙ p .0,
+          ap (λ (q : Reply). q .«dead_ends») (found .reply) ∙ p .1,
+          λ b q i h. rw (found .memory, List·getD-append (given .values) (drop (length (given .values)) before) 0 i (omega (arith, plan-long (number-found ∙ p .0)))) (p .2 b q i),
+        ))
+        (special-decides file within allowed kind enough)
 
-  undecided-found-exactly : (numbersOf r .number ≡ 2) ↔ (allowed < needed file)
-  undecided-found-exactly = simp (number-found, number-of-undecided) (undecided-exactly file within allowed)
-
-  first-found : numbersOf r .number ≡ 0 → FirstPlan file (take (file .v) after)
-  first-found zero-number =
-      let found = number-of-plan (planned file allowed .answer) .0 (sym number-found ∙ zero-number) in
-      let there = plan-found (found .0) (found .1) in
-      rw (there .1, take-at (found .0) (drop (length (found .0)) before) (file .v) (there .0)) (plan-first file within allowed (found .0) (found .1))
-
-  splits-few : numbersOf r .splits ≤ file .n ^ file .v - 1
-  splits-few = rw splits-found (splits-bound file within allowed)
-
-  ladder-found : T (special file) → file .v ≤ allowed
-      → ((numbersOf r .number ≡ 1) × (numbersOf r .splits ≡ 0))
-      ⊎ ((numbersOf r .number ≡ 0) × (numbersOf r .deadEnds ≡ 0) × ((b : List ℕ) → Plan file b → (i : ℕ) → i < file .v → getD after i 0 ≤ getD b i 0))
-  ladder-found kind enough =
-      ⊎-elim (λ n. inl (number-found ∙ number-of-none _ .1 (n .0), splits-found ∙ n .1))
-      (λ p. inr (
-        number-found ∙ number-of-plan _ .1 (p .0, p .1),
-        dead-ends-found ∙ p .2,
-        λ b q i h.
-            let there = plan-found (p .0) (p .1) in
-            rw (there .1, List·getD-append (p .0) (drop (length (p .0)) before) 0 i (omega arith)) (p .3 b q i),
-      ))
-      (special-decides file within allowed kind enough)
-
--- a reply with the numbers and the memory that 01's definition gives keeps the whole promise
-pub promise-kept : (input before after : List ℕ) (allowed : ℕ) (r : Reply) → Every (λ b. b < 256) input
-    → Answered (replyOf input (length before) allowed) r before after → Planned input before after allowed r
-promise-kept input before after allowed r bytes answered =
-    record {
-      answered = answered;
-      decided = decided-found input before after allowed r bytes answered;
-      refused = λ nobody.
-          subst (λ (k : ℕ). (10 ≤ k) × (k ≤ 20)) (sym (ap (λ (n : Numbers). n .number) (answered .numbers)))
-          (reply-refuses input (length before) allowed (λ file short roomy modest read. nobody file (record { short = short; roomy = roomy; modest = modest; read = read })));
-      kept = λ other.
-          answered .memory
-          ∙ ap (λ (values : List ℕ). values ++ drop (length values) before)
-          (reply-silent input (length before) allowed (λ z. other (ap (λ (n : Numbers). n .number) (answered .numbers) ∙ z)));
-      beyond = kept-beyond input before after allowed r bytes answered;
-      plan = plan-found-exactly input before after allowed r bytes answered;
-      first = first-found input before after allowed r bytes answered;
-      none = none-found-exactly input before after allowed r bytes answered;
-      undecided = undecided-found-exactly input before after allowed r bytes answered;
-      bound = splits-few input before after allowed r bytes answered;
-      ladder = ladder-found input before after allowed r bytes answered;
-    }
+  -- a reply that is 01's, with the memory that it leaves, keeps the whole promise
+  pub promise-kept : Planned input before after allowed r
+  promise-kept = record {
+    answered = answered;
+    decided = λ file accepted. omega (arith, number-found file accepted, number-decided file (within file accepted) allowed);
+    refused = λ nobody.
+        subst (λ (k : ℕ). (10 ≤ k) × (k ≤ 20)) (sym (ap (λ (q : Reply). q .number) (answered .reply)))
+        (reply-refuses input (length before) allowed (λ file short roomy modest read. nobody file (record { short = short; roomy = roomy; modest = modest; read = read })));
+    kept = λ other.
+        answered .memory
+        ∙ ap (λ (values : List ℕ). over values before)
+        (reply-silent input (length before) allowed (λ e. other (ap (λ (q : Reply). q .number) (answered .reply) ∙ e)));
+    beyond = kept-beyond;
+    plan = plan-found;
+    first = first-found;
+    none = none-found;
+    undecided = undecided-found;
+    bound = λ file accepted. omega (arith, splits-found file accepted, splits-bound file (within file accepted) allowed);
+    ladder = ladder-found;
+  }

@@ -1,17 +1,18 @@
 -- 01's twelve starred cases over the promise itself: `starred-planned`. Assumes nothing.
-use mathlib.Core.Path.{_≡_, ap, _∙_}
-use mathlib.Core.List.{List, _++_}
+use mathlib.Core.Path.{_≡_, sym, _∙_}
+use mathlib.Core.List.{List}
 use Prim.Native.Nat.{ℕ, _≤_}
 use borrow.Author.Tests.{le-ltb}
-use lib.ListN.{length, drop}
-use Rattle.rules.specs.Lists.{Every}
-use Rattle.rules.proofs.ListLaws.{every-map}
+use lib.ListN.{length}
+use Rattle.lists.specs.Lists.{Every}
+use Rattle.lists.proofs.ListLaws.{every-map}
 use Rattle.steps.specs.Reply as steps
-use Rattle.steps.specs.Reply.{replyOf}
+use Rattle.steps.specs.Table.{replyOf}
 use Rattle.steps.specs.Cases.{Case, starred}
 use Rattle.steps.proofs.StarredCases.{Holds, starred-hold}
-use Rattle.planner.specs.declared.plan.Reply.{Reply}
-use Rattle.planner.specs.Numbers.{numbersOf, numbersGiven}
+use Rattle.searching.specs.declared.reply.Reply.{Reply}
+use Rattle.searching.specs.Answered.{Answered}
+use Rattle.searching.proofs.AnsweredLaws.{answers}
 use Rattle.planner.specs.Promise.{Planned}
 
 -- the reply is the same for every buffer of 64 bytes or more
@@ -19,11 +20,11 @@ reply-roomy : (input : List ℕ) (buffer allowed : ℕ) → 64 ≤ buffer → re
 unfolding replyOf
 reply-roomy input buffer allowed roomy = simp (le-ltb buffer 64 roomy)
 
--- whatever the buffer, a reply that the promise allows has the case's numbers, and the buffer has the case's values in front of the bytes that it had
+-- whatever the buffer, a reply that the promise allows is the case's, and the buffer has its values in front of the bytes that it had
 abbrev pub Promised : Case → Type 0
 Promised c =
     (before after : List ℕ) (r : Reply) → 64 ≤ length before → Planned (c .bytes) before after (c .allowed) r
-    → (numbersOf r ≡ numbersGiven (c .reply)) × (after ≡ c .reply .values ++ drop (length (c .reply .values)) before)
+    → Answered (c .reply) r before after
 
 -- each starred case
 pub starred-planned : Every Promised starred
@@ -32,4 +33,4 @@ starred-planned = every-map Holds Promised starred promised starred-hold
     promised : (c : Case) → Holds c → Promised c
     promised c holds before after r roomy planned =
         let same : replyOf (c .bytes) (length before) (c .allowed) ≡ c .reply = reply-roomy (c .bytes) (length before) (c .allowed) roomy ∙ holds in
-        (planned .answered .numbers ∙ ap numbersGiven same, planned .answered .memory ∙ ap (λ (g : steps.Reply). g .values ++ drop (length (g .values)) before) same)
+        answers (sym same) (planned .answered)

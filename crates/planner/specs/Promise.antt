@@ -8,10 +8,10 @@ use lib.ListN.{length, getD, take}
 use Rattle.rules.specs.Rules.{File}
 use Rattle.rules.specs.Meaning.{Plan, FirstPlan}
 use Rattle.rules.specs.Reading.{sound, reading}
-use Rattle.steps.specs.Reply.{needed, replyOf}
+use Rattle.steps.specs.Table.{needed, replyOf}
 use Rattle.steps.specs.Special.{special}
-use Rattle.planner.specs.declared.plan.Reply.{Reply}
-use Rattle.planner.specs.Numbers.{numbersOf, Answered}
+use Rattle.searching.specs.declared.reply.Reply.{Reply}
+use Rattle.searching.specs.Answered.{Answered}
 
 -- the call is not refused: the input and the allowance are not too large, the buffer not too small, and the bytes are this file
 pub record Accepted (input before : List ℕ) (allowed : ℕ) (file : File) : Type 0 where
@@ -24,21 +24,21 @@ pub record Planned (input before after : List ℕ) (allowed : ℕ) (r : Reply) :
   -- Demand 1. The reply is the one of 01's table, and the buffer has the plan's values in front of the bytes that it had.
   pub answered : Answered (replyOf input (length before) allowed) r before after
   -- A call that is accepted gets PLAN, NONE or UNDECIDED, no refusal and no stall; any other gets a refusal, 10 to 20.
-  pub decided : (file : File) → Accepted input before allowed file → numbersOf r .number ≤ 2
-  pub refused : ((file : File) → Accepted input before allowed file → ⊥) → (10 ≤ numbersOf r .number) × (numbersOf r .number ≤ 20)
+  pub decided : (file : File) → Accepted input before allowed file → r .number ≤ 2
+  pub refused : ((file : File) → Accepted input before allowed file → ⊥) → (10 ≤ r .number) × (r .number ≤ 20)
   -- A reply that is no plan leaves every byte as it was; a plan leaves those from v on.
-  pub kept : (numbersOf r .number ≡ 0 → ⊥) → after ≡ before
+  pub kept : (r .number ≡ 0 → ⊥) → after ≡ before
   pub beyond : (file : File) → Accepted input before allowed file → (i : ℕ) → file .v ≤ i → getD after i 0 ≡ getD before i 0
   -- Demand 2. PLAN exactly if some assignment meets the rules as they were read and the needed splits are allowed, and then the first.
-  pub plan : (file : File) → Accepted input before allowed file → (numbersOf r .number ≡ 0) ↔ (((a : List ℕ) × Plan file a) × (needed file ≤ allowed))
-  pub first : (file : File) → Accepted input before allowed file → numbersOf r .number ≡ 0 → FirstPlan file (take (file .v) after)
+  pub plan : (file : File) → Accepted input before allowed file → (r .number ≡ 0) ↔ (((a : List ℕ) × Plan file a) × (needed file ≤ allowed))
+  pub first : (file : File) → Accepted input before allowed file → r .number ≡ 0 → FirstPlan file (take (file .v) after)
   -- NONE exactly if there is none and the needed splits are allowed.
-  pub none : (file : File) → Accepted input before allowed file → (numbersOf r .number ≡ 1) ↔ (((a : List ℕ) → Plan file a → ⊥) × (needed file ≤ allowed))
+  pub none : (file : File) → Accepted input before allowed file → (r .number ≡ 1) ↔ (((a : List ℕ) → Plan file a → ⊥) × (needed file ≤ allowed))
   -- UNDECIDED exactly if more splits are needed than were allowed.
-  pub undecided : (file : File) → Accepted input before allowed file → (numbersOf r .number ≡ 2) ↔ (allowed < needed file)
+  pub undecided : (file : File) → Accepted input before allowed file → (r .number ≡ 2) ↔ (allowed < needed file)
   -- Demand 3. Splits never exceed n ^ v - 1.
-  pub bound : (file : File) → Accepted input before allowed file → numbersOf r .splits ≤ file .n ^ file .v - 1
+  pub bound : (file : File) → Accepted input before allowed file → r .splits ≤ file .n ^ file .v - 1
   -- The special kind with v or more splits allowed: NONE at no split, or a plan at no dead end, at no position higher than any other plan.
   pub ladder : (file : File) → Accepted input before allowed file → T (special file) → file .v ≤ allowed
-      → ((numbersOf r .number ≡ 1) × (numbersOf r .splits ≡ 0))
-      ⊎ ((numbersOf r .number ≡ 0) × (numbersOf r .deadEnds ≡ 0) × ((b : List ℕ) → Plan file b → (i : ℕ) → i < file .v → getD after i 0 ≤ getD b i 0))
+      → ((r .number ≡ 1) × (r .splits ≡ 0))
+      ⊎ ((r .number ≡ 0) × (r .«dead_ends» ≡ 0) × ((b : List ℕ) → Plan file b → (i : ℕ) → i < file .v → getD after i 0 ≤ getD b i 0))

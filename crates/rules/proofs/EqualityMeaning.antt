@@ -1,19 +1,18 @@
--- An equality means its clauses; an assignment meets a rule or does not. Assumes nothing.
+-- An equality means its clauses, a rule its parts; an assignment meets a rule or does not. Assumes nothing.
 use mathlib.Core.Path.{_≡_, refl, subst}
 use mathlib.Core.List.{List, [], _∷_, map, List·Memᴰ}
 use mathlib.Core.Logic.{_↔_, _⊎_, inl, ⊎-elim, ⊎-map, Iff·symm, Iff·trans, Iff·and, and-true}
 use Prim.Native.Nat.{ℕ, _^_, _≤_, _<_}
 use Rattle.sets.specs.Sets.{isMember, member, single, values}
-use Rattle.sets.proofs.Members.{test-cases, member-empty, member-range, member-single}
+use Rattle.sets.proofs.Members.{member-empty, member-range, member-single}
+use Rattle.lists.proofs.TestLaws.{test-cases}
 use Rattle.sets.proofs.Sameness.{no-member-empty}
 use Rattle.sets.proofs.Values.{member-of-listed, listed-of-member}
-use Rattle.rules.specs.declared.field.Atom.{Atom}
-use Rattle.rules.specs.Lists.{Some, Every}
+use Rattle.lists.specs.Lists.{Some, Every}
 use Rattle.rules.specs.Rules.{Rule, clause, equality}
 use Rattle.rules.specs.Meaning.{valueAt, MeetsAtom, Meets}
-use Rattle.rules.specs.Clauses.{atomIn, equalityClauses, clausesOf}
-use Rattle.rules.proofs.ListLaws.{some-of-listed, listed-of-some, every-of-listed, every-at, some-listed-twice, some-same, every-same}
-use Rattle.rules.proofs.ListLaws.{every-over-append, some-over-map, every-over-map, some-decided, every-decided}
+use Rattle.rules.specs.Parts.{Part, oneOf, MeetsPart, atomIn, equalityParts, partsOf}
+use Rattle.lists.proofs.ListLaws.{some-of-listed, listed-of-some, every-of-listed, every-at, some-listed-twice, some-same, every-same, every-over-append, some-over-map, every-over-map, some-decided, every-decided}
 
 -- some of the positions takes the value x
 abbrev pub Takes : List ℕ → List ℕ → ℕ → Type 0
@@ -43,12 +42,12 @@ equality-halves a m ps h = (forth, back)
             subst (λ (y : ℕ). member y m) (found .2) (every-at (ValueIn a m) (halves .0) (found .1))
 
 -- the clause "it is in M" of one position
-value-in-clause : (a : List ℕ) (m p : ℕ) → ValueIn a m p ↔ Meets a (clause (atomIn m p ∷ []))
+value-in-clause : (a : List ℕ) (m p : ℕ) → ValueIn a m p ↔ MeetsPart a (oneOf (atomIn m p ∷ []))
 unfolding atomIn
 value-in-clause a m p = (inl, ⊎-elim (λ t. t) absurd)
 
 -- the clause "one of the positions is in {x}"
-takes-clause : (a : List ℕ) (ps : List ℕ) (x : ℕ) → (1 ≤ x) × (x ≤ 32) → Takes a ps x ↔ Meets a (clause (map (atomIn (single x)) ps))
+takes-clause : (a : List ℕ) (ps : List ℕ) (x : ℕ) → (1 ≤ x) × (x ≤ 32) → Takes a ps x ↔ MeetsPart a (oneOf (map (atomIn (single x)) ps))
 unfolding atomIn
 takes-clause a ps x range =
     Iff·trans
@@ -57,37 +56,32 @@ takes-clause a ps x range =
     (Iff·symm (some-over-map (MeetsAtom a) (atomIn (single x)) ps))
 
 -- an equality means its clauses
-pub equality-means-clauses : (a : List ℕ) (m : ℕ) (ps : List ℕ) → m < 2 ^ 32
-    → Meets a (equality m ps) ↔ Every (λ atoms. Meets a (clause atoms)) (clausesOf (equality m ps))
-unfolding clausesOf equalityClauses
+pub equality-means-clauses : (a : List ℕ) (m : ℕ) (ps : List ℕ) → m < 2 ^ 32 → Meets a (equality m ps) ↔ Every (MeetsPart a) (partsOf (equality m ps))
+unfolding partsOf equalityParts
 equality-means-clauses a m ps h =
     Iff·trans (equality-halves a m ps h)
     (Iff·trans (Iff·and first second)
-    (Iff·symm (every-over-append MeetsClause (map (λ p. atomIn m p ∷ []) ps) (map (λ x. map (atomIn (single x)) ps) (values m)))))
+    (Iff·symm (every-over-append (MeetsPart a) (map (λ p. oneOf (atomIn m p ∷ [])) ps) (map (λ x. oneOf (map (atomIn (single x)) ps)) (values m)))))
   where
-    MeetsClause : List Atom → Type 0
-    MeetsClause atoms = Meets a (clause atoms)
+    each : (P : ℕ → Type 0) (part : ℕ → Part) (xs : List ℕ) → ((x : ℕ) → List·Memᴰ x xs → P x ↔ MeetsPart a (part x)) → Every P xs ↔ Every (MeetsPart a) (map part xs)
+    each P part xs same = Iff·trans (every-same P (λ x. MeetsPart a (part x)) xs same) (Iff·symm (every-over-map (MeetsPart a) part xs))
 
-    each : (P : ℕ → Type 0) (atoms : ℕ → List Atom) (xs : List ℕ) → ((x : ℕ) → List·Memᴰ x xs → P x ↔ MeetsClause (atoms x))
-        → Every P xs ↔ Every MeetsClause (map atoms xs)
-    each P atoms xs same = Iff·trans (every-same P (λ x. MeetsClause (atoms x)) xs same) (Iff·symm (every-over-map MeetsClause atoms xs))
+    first : Every (ValueIn a m) ps ↔ Every (MeetsPart a) (map (λ p. oneOf (atomIn m p ∷ [])) ps)
+    first = each (ValueIn a m) (λ p. oneOf (atomIn m p ∷ [])) ps (λ p t. value-in-clause a m p)
 
-    first : Every (ValueIn a m) ps ↔ Every MeetsClause (map (λ p. atomIn m p ∷ []) ps)
-    first = each (ValueIn a m) (λ p. atomIn m p ∷ []) ps (λ p t. value-in-clause a m p)
-
-    second : Every (Takes a ps) (values m) ↔ Every MeetsClause (map (λ x. map (atomIn (single x)) ps) (values m))
-    second = each (Takes a ps) (λ x. map (atomIn (single x)) ps) (values m) (λ x t. takes-clause a ps x (member-range x m h (member-of-listed m x t)))
+    second : Every (Takes a ps) (values m) ↔ Every (MeetsPart a) (map (λ x. oneOf (map (atomIn (single x)) ps)) (values m))
+    second = each (Takes a ps) (λ x. oneOf (map (atomIn (single x)) ps)) (values m) (λ x t. takes-clause a ps x (member-range x m h (member-of-listed m x t)))
 
 -- the set of an equality is a mask; a clause asks for nothing
 abbrev pub MaskFits : Rule → Type 0
 MaskFits (clause atoms) = Unit {0}
 MaskFits (equality m ps) = m < 2 ^ 32
 
--- a rule means its clauses
-pub rule-means-clauses : (a : List ℕ) (r : Rule) → MaskFits r → Meets a r ↔ Every (λ atoms. Meets a (clause atoms)) (clausesOf r)
-unfolding clausesOf
-rule-means-clauses a (clause atoms) h = Iff·symm and-true
-rule-means-clauses a (equality m ps) h = equality-means-clauses a m ps h
+-- a rule means its parts
+pub rule-means-parts : (a : List ℕ) (r : Rule) → MaskFits r → Meets a r ↔ Every (MeetsPart a) (partsOf r)
+unfolding partsOf
+rule-means-parts a (clause atoms) h = Iff·symm and-true
+rule-means-parts a (equality m ps) h = equality-means-clauses a m ps h
 
 -- an equality of no values over no positions is met
 pub no-positions-empty : (a : List ℕ) → Meets a (equality 0 [])
@@ -108,14 +102,12 @@ named-twice a m p ps t = (λ meets x. Iff·trans (meets x) (twice x), λ meets x
 pub empty-clause : (a : List ℕ) → Meets a (clause []) → ⊥
 empty-clause a s = s
 
+-- an assignment meets a part or does not
+pub part-decided : (a : List ℕ) (part : Part) → MeetsPart a part ⊎ (MeetsPart a part → ⊥)
+part-decided a (oneOf atoms) = some-decided (MeetsAtom a) (λ atom. test-cases (isMember (valueAt a (atom .position)) (atom .set))) atoms
+
 -- an assignment meets a rule or does not
 pub meets-decided : (a : List ℕ) (r : Rule) → MaskFits r → Meets a r ⊎ (Meets a r → ⊥)
 meets-decided a r h =
-    ⊎-map (means .1) (λ none meets. none (means .0 meets))
-    (every-decided (λ atoms. Meets a (clause atoms)) (some-decided (MeetsAtom a) atom-decided) (clausesOf r))
-  where
-    means : Meets a r ↔ Every (λ atoms. Meets a (clause atoms)) (clausesOf r)
-    means = rule-means-clauses a r h
-
-    atom-decided : (atom : Atom) → MeetsAtom a atom ⊎ (MeetsAtom a atom → ⊥)
-    atom-decided atom = test-cases (isMember (valueAt a (atom .position)) (atom .set))
+    let means = rule-means-parts a r h in
+    ⊎-map (means .1) (λ none meets. none (means .0 meets)) (every-decided (MeetsPart a) (part-decided a) (partsOf r))

@@ -1,10 +1,12 @@
 -- What is known of the content of a field of a sound file: whole atoms, and positions, from 1 to v. Assumes nothing.
-use Prim.Native.Nat.{ℕ, _*_, _/_, _≤_}
+use Prim.Native.Nat.{ℕ, _-_, _*_, _/_, _≤_}
 use mathlib.Core.Path.{_≡_}
 use mathlib.Core.List.{List}
-use lib.ListN.{length, take}
+use lib.ListN.{length, take, drop}
 use Rattle.rules.specs.declared.field.Atom.{Atom}
-use Rattle.rules.specs.Lists.{Every}
+use Rattle.rules.specs.declared.field.Tag.{Tag}
+use Rattle.rules.specs.declared.field.Tag.the-variants.{Header, Clause, Equality, Unknown}
+use Rattle.lists.specs.Lists.{Every}
 use Rattle.rules.specs.Reading.{atomsOf}
 use Rattle.rules.specs.Writing.{PositionFits}
 
@@ -28,3 +30,10 @@ pub record Positions (v count : ℕ) (bytes : List ℕ) : Type 0 where
   pub there : count ≤ length bytes
   pub few : v ≤ 64
   pub fit : PositionsFit v (take count bytes)
+
+-- what is known of a content of so many bytes, by its field's kind; no field behind the header is a header, and none is unknown
+abbrev pub ContentFits : Tag → ℕ → ℕ → List ℕ → Type 0
+ContentFits Header v len content = ⊥
+ContentFits Clause v len content = Atoms v len content
+ContentFits Equality v len content = (4 ≤ len) × Positions v (len - 4) (drop 4 content)
+ContentFits Unknown v len content = ⊥

@@ -1,10 +1,9 @@
-pub mod Lists
 pub mod Rules
 pub mod Reading
-pub mod Checked
 pub mod Meaning
-pub mod Clauses
+pub mod Parts
 pub mod Writing
 pub mod Promise
 pub mod Contents
 pub mod Sound
+pub mod Walk

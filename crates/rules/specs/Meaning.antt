@@ -6,7 +6,7 @@ use mathlib.Core.Logic.{_↔_, _⊎_}
 use lib.ListN.{length, getD}
 use Rattle.sets.specs.Sets.{member}
 use Rattle.rules.specs.declared.field.Atom.{Atom}
-use Rattle.rules.specs.Lists.{Some, Every}
+use Rattle.lists.specs.Lists.{Some, Every}
 use Rattle.rules.specs.Rules.{Rule, Field, File, clause, equality}
 
 -- an assignment of v positions: the values of positions 1 to v in turn, each from 1 to n
@@ -26,9 +26,13 @@ abbrev pub Meets : List ℕ → Rule → Type 0
 Meets a (clause atoms) = Some (MeetsAtom a) atoms
 Meets a (equality m ps) = (x : ℕ) → member x m ↔ Some (λ p. valueAt a p ≡ x) ps
 
--- the assignment meets every rule of the file
-abbrev pub MeetsAll : List ℕ → List Field → Type 0
-MeetsAll a fields = Every (λ f. Meets a (f .rule)) fields
+-- the assignment meets every rule
+abbrev pub MeetsAll : List ℕ → List Rule → Type 0
+MeetsAll a rules = Every (Meets a) rules
+
+-- the assignment meets the rule of every field
+abbrev pub MeetsFields : List ℕ → List Field → Type 0
+MeetsFields a fields = Every (λ f. Meets a (f .rule)) fields
 
 -- a comes before b in dictionary order: position 1 is compared, then 2, and so on, the smaller value first
 abbrev pub Before : List ℕ → List ℕ → Type 0
@@ -38,7 +42,7 @@ Before (a ∷ more) (b ∷ bs) = (a < b) ⊎ ((a ≡ b) × Before more bs)
 
 -- a plan of the file: an assignment that meets all of its rules
 abbrev pub Plan : File → List ℕ → Type 0
-Plan file a = Assignment (file .v) (file .n) a × MeetsAll a (file .fields)
+Plan file a = Assignment (file .v) (file .n) a × MeetsAll a (file .rules)
 
 -- the first plan in dictionary order
 abbrev pub FirstPlan : File → List ℕ → Type 0

@@ -6,9 +6,7 @@ use lib.ListN.{drop}
 use Rattle.rules.specs.declared.field.Tag.{Tag}
 use Rattle.rules.specs.declared.field.Atom.{Atom}
 use Rattle.rules.specs.declared.field.Head.{Head}
-use Rattle.rules.specs.declared.check.Checked.{Checked}
-use Rattle.rules.specs.Reading.{tagOf, setAt, atomOf, headOf, reading}
-use Rattle.rules.specs.Checked.{checkedOf}
+use Rattle.rules.specs.Reading.{tagOf, setAt, atomOf, headOf}
 
 -- `tag_of`: the kind of field that a tag byte announces
 abbrev pub TagOf : ℕ → Tag → Type 0
@@ -25,7 +23,3 @@ AtomAt bytes at r = r ≡ atomOf (drop at bytes)
 -- `head_at`: the three bytes from `at` on as a head
 abbrev pub HeadAt : List ℕ → ℕ → Head → Type 0
 HeadAt bytes at r = r ≡ headOf (drop at bytes)
-
--- `check`: v and n of the file that the bytes are, or the refusal
-abbrev pub Checks : List ℕ → Checked → Type 0
-Checks input r = r ≡ checkedOf (reading input)

@@ -1,4 +1,4 @@
--- Reading: from the bytes of a file to its fields, or to a refusal with its number and place. The contracts of `src/` cite these. Assumes nothing.
+-- Reading: from the bytes of a file to its rules, or to a refusal with its number and place. The contracts of `src/` cite these. Assumes nothing.
 use Prim.Native.Nat.{ℕ, zero, suc, _+_, _-_, _*_, _/_, _%_}
 use mathlib.Core.Bool.{Bool, true, false, not, _&&_}
 use mathlib.Core.List.{List, [], _∷_}
@@ -9,10 +9,11 @@ use Rattle.rules.specs.declared.field.Tag.{Tag}
 use Rattle.rules.specs.declared.field.Tag.the-variants.{Header, Clause, Equality, Unknown}
 use Rattle.rules.specs.declared.field.Atom.{Atom}
 use Rattle.rules.specs.declared.field.Head.{Head}
-use Rattle.rules.specs.Rules.{Rule, Field, File, clause, equality}
+use Rattle.rules.specs.Rules.{Rule, File, clause, equality}
 
 -- ---- what the bytes of a field say
 
+-- the first kind where the test holds, else the second
 abbrev pub pickTag : Bool → Tag → Tag → Tag
 pickTag true a b = a
 pickTag false a b = b
@@ -33,9 +34,9 @@ setAt bytes at = ((getD bytes at 0 * 256 + getD bytes (at + 1) 0) * 256 + getD b
 unfoldable pub atomOf : List ℕ → Atom
 atomOf bytes = record { position = getD bytes 0 0; set = setAt bytes 1 }
 
--- the head that three bytes are: a tag byte, then a length
+-- the head that three bytes are: a tag byte, then a length; the kind of its field is `tagOf (head .tag)`
 unfoldable pub headOf : List ℕ → Head
-headOf bytes = record { kind = tagOf (getD bytes 0 0); length = lengthAt bytes 1 }
+headOf bytes = record { tag = getD bytes 0 0; length = lengthAt bytes 1 }
 
 -- the bytes behind a field's head
 unfoldable pub contentOf : List ℕ → List ℕ
@@ -72,18 +73,6 @@ abbrev pub orElse : ℕ → ℕ → ℕ
 orElse zero later = later
 orElse (suc number) later = suc number
 
-unfoldable pub isHeader : Tag → Bool
-isHeader Header = true
-isHeader Clause = false
-isHeader Equality = false
-isHeader Unknown = false
-
-unfoldable pub isUnknown : Tag → Bool
-isUnknown Header = false
-isUnknown Clause = false
-isUnknown Equality = false
-isUnknown Unknown = true
-
 -- 19: a position 0 or above v
 unfoldable pub positionFault : ℕ → ℕ → ℕ
 positionFault v p = faultIf (not (leb 1 p && leb p v)) 19 λ _. 0
@@ -96,10 +85,12 @@ setFault n m = faultIf (not (inside m (full n))) 20 λ _. 0
 unfoldable pub atomFault : ℕ → ℕ → Atom → ℕ
 atomFault v n a = orElse (positionFault v (a .position)) (setFault n (a .set))
 
+-- the first fault of some atoms
 unfoldable pub atomsFault : ℕ → ℕ → List Atom → ℕ
 atomsFault v n [] = 0
 atomsFault v n (a ∷ more) = orElse (atomFault v n a) (atomsFault v n more)
 
+-- the first fault of some positions
 unfoldable pub positionsFault : ℕ → List ℕ → ℕ
 positionsFault v [] = 0
 positionsFault v (p ∷ ps) = orElse (positionFault v p) (positionsFault v ps)
@@ -111,32 +102,47 @@ ruleFault v n (equality m ps) = orElse (setFault n m) (positionsFault v ps)
 
 -- the rule that a field's bytes hold
 unfoldable pub ruleAt : List ℕ → Rule
-ruleAt bytes = ruleOf (headOf bytes .kind) (headOf bytes .length) (contentOf bytes)
+ruleAt bytes = ruleOf (tagOf (headOf bytes .tag)) (headOf bytes .length) (contentOf bytes)
 
--- a field behind the header, in 01's order of tests
+-- the kind of a field behind the header: 15 for a later header, 16 for a tag that is not known
+unfoldable pub tagFault : Tag → ℕ
+tagFault Header = 15
+tagFault Clause = 0
+tagFault Equality = 0
+tagFault Unknown = 16
+
+-- what stands behind the tag: the length (17), bytes missing (13), the content
+unfoldable pub bodyFault : ℕ → ℕ → Tag → ℕ → List ℕ → ℕ
+bodyFault v n kind len content =
+    faultIf (not (lengthFits kind len)) 17 λ _.
+    faultIf (ltb (length content) len) 13 λ _.
+    ruleFault v n (ruleOf kind len content)
+
+-- a field behind the header, in 01's order of tests: a head that is cut, the tag, what stands behind it
 unfoldable pub fieldFault : ℕ → ℕ → List ℕ → ℕ
 fieldFault v n bytes =
     faultIf (ltb (length bytes) 3) 13 λ _.
-    faultIf (isHeader (headOf bytes .kind)) 15 λ _.
-    faultIf (isUnknown (headOf bytes .kind)) 16 λ _.
-    faultIf (not (lengthFits (headOf bytes .kind) (headOf bytes .length))) 17 λ _.
-    faultIf (ltb (length (contentOf bytes)) (headOf bytes .length)) 13 λ _.
-    ruleFault v n (ruleAt bytes)
+    orElse (tagFault (tagOf (headOf bytes .tag))) (bodyFault v n (tagOf (headOf bytes .tag)) (headOf bytes .length) (contentOf bytes))
 
 -- v and n as a header may have them
 unfoldable pub limitsFit : ℕ → ℕ → Bool
 limitsFit v n = (leb 1 v && leb v 64) && (leb 1 n && leb n 32)
 
--- the header, in 01's order of tests
+-- what stands behind the header's tag: the length (17), bytes missing (13), v and n (18)
+unfoldable pub headerBodyFault : ℕ → List ℕ → ℕ
+headerBodyFault len bytes =
+    faultIf (not (lengthFits Header len)) 17 λ _.
+    faultIf (ltb (length (contentOf bytes)) 2) 13 λ _.
+    faultIf (not (limitsFit (getD bytes 3 0) (getD bytes 4 0))) 18 λ _.
+    0
+
+-- the header, in 01's order of tests: an empty input, a head that is cut, the tag, what stands behind it
 unfoldable pub headerFault : List ℕ → ℕ
 headerFault bytes =
     faultIf (eqb (length bytes) 0) 14 λ _.
     faultIf (ltb (length bytes) 3) 13 λ _.
-    faultIf (not (isHeader (headOf bytes .kind))) 14 λ _.
-    faultIf (not (lengthFits Header (headOf bytes .length))) 17 λ _.
-    faultIf (ltb (length (contentOf bytes)) 2) 13 λ _.
-    faultIf (not (limitsFit (getD bytes 3 0) (getD bytes 4 0))) 18 λ _.
-    0
+    faultIf (not (eqb (headOf bytes .tag) 1)) 14 λ _.
+    headerBodyFault (headOf bytes .length) bytes
 
 -- ---- the whole file
 
@@ -150,22 +156,22 @@ abbrev pub refuseFor : ℕ → ℕ → (Unit {0} → Reading) → Reading
 refuseFor zero place rest = rest tt
 refuseFor (suc number) place rest = refused (suc number) place
 
--- what was found, with one field more in front
-abbrev pub withField : Field → Reading → Reading
-withField f (sound file) = sound (record { v = file .v; n = file .n; fields = f ∷ file .fields })
-withField f (refused number place) = refused number place
+-- what was found, with one rule more in front
+abbrev pub withRule : Rule → Reading → Reading
+withRule r (sound file) = sound (record { v = file .v; n = file .n; rules = r ∷ file .rules })
+withRule r (refused number place) = refused number place
 
 -- the number of bytes of the field that starts the bytes
 unfoldable pub sizeOf : List ℕ → ℕ
 sizeOf bytes = 3 + headOf bytes .length
 
--- The fields that the bytes from a place on are. Each takes 3 bytes or more, so as many steps as there are bytes are enough.
+-- The rules of the fields that the bytes from a place on are. Each takes 3 bytes or more, so as many steps as there are bytes are enough.
 unfoldable pub readFields : ℕ → ℕ → ℕ → ℕ → List ℕ → Reading
-readFields zero v n place bytes = sound (record { v = v; n = n; fields = [] })
-readFields (suc k) v n place [] = sound (record { v = v; n = n; fields = [] })
+readFields zero v n place bytes = sound (record { v = v; n = n; rules = [] })
+readFields (suc k) v n place [] = sound (record { v = v; n = n; rules = [] })
 readFields (suc k) v n place (b ∷ bs) =
     refuseFor (fieldFault v n (b ∷ bs)) place λ _.
-    withField (record { place = place; rule = ruleAt (b ∷ bs) }) (readFields k v n (place + sizeOf (b ∷ bs)) (drop (sizeOf (b ∷ bs)) (b ∷ bs)))
+    withRule (ruleAt (b ∷ bs)) (readFields k v n (place + sizeOf (b ∷ bs)) (drop (sizeOf (b ∷ bs)) (b ∷ bs)))
 
 -- the file that the bytes are
 unfoldable pub reading : List ℕ → Reading

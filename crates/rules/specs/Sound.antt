@@ -4,15 +4,16 @@ use mathlib.Core.Path.{_≡_}
 use mathlib.Core.List.{List, []}
 use Rattle.rules.specs.Rules.{Field, File}
 use Rattle.rules.specs.Reading.{Reading, sound, refused, reading}
+use Rattle.rules.specs.Writing.{fieldsOf}
 
 -- the file that was read, and a file with nothing in it where the bytes were refused
 unfoldable pub fileOf : Reading → File
 fileOf (sound file) = file
-fileOf (refused number place) = record { v = 0; n = 0; fields = [] }
+fileOf (refused number place) = record { v = 0; n = 0; rules = [] }
 
 -- the fields of the file that the bytes are
 unfoldable pub fieldsIn : List ℕ → List Field
-fieldsIn s = fileOf (reading s) .fields
+fieldsIn s = fieldsOf (fileOf (reading s))
 
 -- the bytes are a sound file of v positions
 pub record SoundInput (s : List ℕ) (v : ℕ) : Type 0 where

@@ -1,12 +1,11 @@
--- Writing a file back to bytes, and the limits of a file that can be read. Assumes nothing.
+-- Writing a file back to bytes, the places of its fields, and the limits of a file that can be read. Assumes nothing.
 use Prim.Native.Nat.{ℕ, _+_, _*_, _/_, _%_, _≤_, _<_}
-use mathlib.Core.Path.{_≡_}
 use mathlib.Core.List.{List, [], _∷_, _++_}
 use lib.Dec.{T}
 use lib.ListN.{length}
 use Rattle.sets.specs.Sets.{full, inside}
 use Rattle.rules.specs.declared.field.Atom.{Atom}
-use Rattle.rules.specs.Lists.{Every}
+use Rattle.lists.specs.Lists.{Every}
 use Rattle.rules.specs.Rules.{Rule, Field, File, clause, equality}
 
 -- a length as two bytes, high byte first
@@ -17,28 +16,56 @@ twoBytes len = len / 256 ∷ len % 256 ∷ []
 unfoldable pub fourBytes : ℕ → List ℕ
 fourBytes m = m / 256 / 256 / 256 ∷ m / 256 / 256 % 256 ∷ m / 256 % 256 ∷ m % 256 ∷ []
 
+-- atoms one behind the other: a position byte, then a set
 unfoldable pub writtenAtoms : List Atom → List ℕ
 writtenAtoms [] = []
 writtenAtoms (a ∷ more) = a .position ∷ fourBytes (a .set) ++ writtenAtoms more
 
 -- a field: tag, length, content
+unfoldable pub framed : ℕ → List ℕ → List ℕ
+framed tag content = tag ∷ twoBytes (length content) ++ content
+
+-- the tag byte of a rule's field
+unfoldable pub tagByte : Rule → ℕ
+tagByte (clause atoms) = 2
+tagByte (equality m ps) = 3
+
+-- the content of a rule's field
+unfoldable pub contentBytes : Rule → List ℕ
+contentBytes (clause atoms) = writtenAtoms atoms
+contentBytes (equality m ps) = fourBytes m ++ ps
+
+-- a rule's field
 unfoldable pub writtenRule : Rule → List ℕ
-writtenRule (clause atoms) = 2 ∷ twoBytes (length atoms * 5) ++ writtenAtoms atoms
-writtenRule (equality m ps) = 3 ∷ twoBytes (4 + length ps) ++ fourBytes m ++ ps
+writtenRule rule = framed (tagByte rule) (contentBytes rule)
 
-unfoldable pub writtenFields : List Field → List ℕ
-writtenFields [] = []
-writtenFields (f ∷ fs) = writtenRule (f .rule) ++ writtenFields fs
+-- the fields of some rules, one behind the other
+unfoldable pub writtenRules : List Rule → List ℕ
+writtenRules [] = []
+writtenRules (r ∷ rs) = writtenRule r ++ writtenRules rs
 
--- a file: the header, then its fields
+-- a file: the header, then the fields of its rules
 unfoldable pub written : File → List ℕ
-written file = 1 ∷ 0 ∷ 2 ∷ file .v ∷ file .n ∷ writtenFields (file .fields)
+written file = framed 1 (file .v ∷ file .n ∷ []) ++ writtenRules (file .rules)
+
+-- ---- places
+
+-- the fields of some rules from a place on: each stands where the one before it ends
+unfoldable pub placed : ℕ → List Rule → List Field
+placed place [] = []
+placed place (r ∷ rs) = record { place = place; rule = r } ∷ placed (place + length (writtenRule r)) rs
+
+-- the fields of a file, the first behind the header
+unfoldable pub fieldsOf : File → List Field
+fieldsOf file = placed 5 (file .rules)
 
 -- ---- 01's limits
 
+-- a position is 1 to v
 abbrev pub PositionFits : ℕ → ℕ → Type 0
 PositionFits v p = (1 ≤ p) × (p ≤ v)
 
+-- a set lies within {1..n}
 abbrev pub SetFits : ℕ → ℕ → Type 0
 SetFits n m = T (inside m (full n))
 
@@ -47,14 +74,8 @@ abbrev pub RuleFits : ℕ → ℕ → Rule → Type 0
 RuleFits v n (clause atoms) = (length atoms * 5 < 65536) × Every (λ a. PositionFits v (a .position) × SetFits n (a .set)) atoms
 RuleFits v n (equality m ps) = (length ps ≤ 64) × SetFits n m × Every (PositionFits v) ps
 
--- each field stands where the one before it ends
-abbrev pub Placed : ℕ → List Field → Type 0
-Placed place [] = Unit {0}
-Placed place (f ∷ fs) = (f .place ≡ place) × Placed (place + length (writtenRule (f .rule))) fs
-
--- a file within the limits: v 1 to 64, n 1 to 32, and every field
+-- a file within the limits: v 1 to 64, n 1 to 32, and every rule
 pub record Within (file : File) : Type 0 where
   pub positions : (1 ≤ file .v) × (file .v ≤ 64)
   pub values : (1 ≤ file .n) × (file .n ≤ 32)
-  pub rules : Every (λ f. RuleFits (file .v) (file .n) (f .rule)) (file .fields)
-  pub places : Placed 5 (file .fields)
+  pub rules : Every (RuleFits (file .v) (file .n)) (file .rules)

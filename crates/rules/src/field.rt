@@ -20,9 +20,9 @@ pub struct Atom {
     pub set: u32,
 }
 
-// The first three bytes of a field: its kind, and how many bytes of content follow.
+// The first three bytes of a field: its tag byte, and how many bytes of content follow.
 pub struct Head {
-    pub kind: Tag,
+    pub tag: u8,
     pub length: usize,
 }
 
@@ -71,7 +71,7 @@ pub fn head_at(bytes: &[u8], at: usize) -> Head
     requires { ⌜ at + 3 ≤ length (now bytes) ⌝ }
     ensures { λ r. ⌜ HeadAt (now (bytes .entry)) at r ⌝ }
 {
-    let kind = tag_of(bytes[at]);
+    let tag = bytes[at];
     let length = two_at(bytes, at + 1) as usize;
-    Head { kind, length }
+    Head { tag, length }
 }

@@ -1,4 +1,3 @@
-// The rule file: reads fields out of the caller's own bytes, and refuses a file that is not sound.
-// No copy of the rules is made. The contracts cite specs/Reading.antt (what the bytes say).
-pub mod check;
+// The rule file: reads fields out of the caller's own bytes. No copy of the rules is made. The
+// contracts cite specs/Reading.antt (what the bytes say).
 pub mod field;

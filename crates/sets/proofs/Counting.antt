@@ -14,7 +14,8 @@ use lib.ListN.{length}
 use Rattle.sets.specs.Sets.{digit, isMember, member, inRange, onlyIf, full, single, union, common, complement, inside, listedIf, valuesFrom, values, count, beside}
 use Rattle.sets.specs.Promise.{oneIf, howMany}
 use Rattle.sets.proofs.Digits.{half-below}
-use Rattle.sets.proofs.Members.{test-cases, in-range, member-digit, member-empty, member-range, member-union, member-common, member-complement}
+use Rattle.sets.proofs.Members.{in-range, member-digit, member-empty, member-range, member-union, member-common, member-complement}
+use Rattle.lists.proofs.TestLaws.{test-cases}
 use Rattle.sets.proofs.Sameness.{full-below, single-below, union-below, common-below, member-extensional, no-member-empty, inside-iff}
 use Rattle.sets.proofs.Shifts.{only-if-so}
 use Rattle.sets.proofs.Values.{values-step}
@@ -85,6 +86,18 @@ ones-none (suc k) m h e =
 -- only the empty set has no value
 pub count-zero : (m : ℕ) → m < 2 ^ 32 → (count m ≡ 0) ↔ (m ≡ 0)
 count-zero m h = (λ e. ones-none 32 m h (sym (count-ones m h) ∙ e), λ e. ap count e ∙ count-of-empty)
+
+-- a set that is not empty has a value or more
+pub count-positive : (m : ℕ) → m < 2 ^ 32 → (m ≡ 0 → ⊥) → 1 ≤ count m
+count-positive m h ne = go (count m) refl
+  where
+    go : (k : ℕ) → count m ≡ k → 1 ≤ k
+    go zero e = absurd (ne (count-zero m h .0 e))
+    go (suc k) e = omega arith
+
+-- a set that has a value or more is not empty
+pub count-not-empty : (m : ℕ) → 1 ≤ count m → m ≡ 0 → ⊥
+count-not-empty m h e = let z : count m ≡ 0 = ap count e ∙ count-of-empty in omega arith
 
 pub count-at-most : (m : ℕ) → m < 2 ^ 32 → count m ≤ 32
 count-at-most m h = subst (λ (n : ℕ). n ≤ 32) (sym (count-ones m h)) (ones-le 32 m h)

@@ -5,12 +5,12 @@ use mathlib.Core.Bool.{Bool}
 use Prim.Native.Nat.{ℕ, _^_, _<_}
 use lib.Bits.{or-comm, and-comm}
 use lib.Dec.{T}
-use Rattle.sets.specs.Sets.{member, full, single, union, common, inside, complement, count, smallest}
-use Rattle.sets.specs.Promise.{Full, Single, Union, Common, Inside, Complement, Count, Smallest}
+use Rattle.sets.specs.Sets.{member, full, single, union, common, inside, complement, count, smallest, others}
+use Rattle.sets.specs.Promise.{Full, Single, Union, Common, Inside, Complement, Count, Smallest, Others}
 use Rattle.sets.proofs.Members.{member-full, member-single, member-union, member-common, member-complement}
 use Rattle.sets.proofs.Sameness.{inside-iff, no-member-empty}
 use Rattle.sets.proofs.Counting.{count-how-many}
-use Rattle.sets.proofs.Smallest.{smallest-least, smallest-of-empty}
+use Rattle.sets.proofs.Smallest.{smallest-least, smallest-of-empty, others-smaller}
 
 -- what is known of the members of a set is known of an equal set
 members-of : {P : ℕ → Type 0} {r s : ℕ} → r ≡ s → ((x : ℕ) → member x s ↔ P x) → (x : ℕ) → member x r ↔ P x
@@ -53,3 +53,6 @@ smallest-kept {m} {r} h e = record {
   least = λ x t. subst (λ (s : ℕ). member s m × (Prim.Native.Nat._≤_ s x)) (sym e) (smallest-least m x h t);
   none = λ none. e ∙ ap smallest (no-member-empty m none) ∙ smallest-of-empty;
 }
+
+pub others-kept : {m r : ℕ} → m < 2 ^ 32 → r ≡ others m → Others m r
+others-kept {m} h e = record { result = e; members = members-of e (λ x. others-smaller m x h) }

@@ -7,3 +7,4 @@ pub mod Counting
 pub mod Smallest
 pub mod Kept
 pub mod Unique
+pub mod Unions

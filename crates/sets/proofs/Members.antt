@@ -1,5 +1,5 @@
 -- Laws of membership: who is in each set that the operations make. The layers above cite these and unfold no operation. Assumes nothing.
-use mathlib.Core.Path.{_≡_, refl, sym, ap, ap₂, _∙_, subst}
+use mathlib.Core.Path.{_≡_, sym, ap, ap₂, _∙_, subst}
 use mathlib.Core.Logic.{_↔_, _⊎_, inl, inr, ⊎-elim}
 use mathlib.Core.Bool.{Bool, true, false, _&&_}
 use Prim.Native.Nat.{ℕ, zero, suc, _-_, _^_, _≤_, _<_, min, max, zero-le}
@@ -10,30 +10,9 @@ use lib.Dec.{T, eqb, leb, eqb→eq, leb→le, le→leb}
 use lib.Pow.{ones-lt}
 use lib.Bits.{bitAnd, bitOr, bitXor, differ}
 use borrow.Author.Tests.{eq-eqb}
+use Rattle.lists.proofs.TestLaws.{true-test}
 use Rattle.sets.specs.Sets.{digit, isMember, member, inRange, onlyIf, full, single, union, common, complement}
 use Rattle.sets.proofs.Digits.{digit-small, digit-cases, digit-of-zero, digit-high, digit-and, digit-or, digit-xor, digit-ones-low, digit-power-same, digit-power-other}
-
--- ---- tests and what they say
-
-pub test-true : (b : Bool) → T b → b ≡ true
-test-true true t = refl
-test-true false t = absurd t
-
-pub true-test : (b : Bool) → b ≡ true → T b
-true-test true e = tt
-true-test false e = subst T (sym e) tt
-
--- two tests that say the same are the same
-pub test-same : (b c : Bool) → (T b → T c) → (T c → T b) → b ≡ c
-test-same true true f g = refl
-test-same true false f g = absurd (f tt)
-test-same false true f g = absurd (g tt)
-test-same false false f g = refl
-
--- a test holds or fails
-pub test-cases : (b : Bool) → T b ⊎ (T b → ⊥)
-test-cases true = inl tt
-test-cases false = inr (λ t. t)
 
 -- ---- a member is a digit
 

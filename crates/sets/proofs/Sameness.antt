@@ -7,11 +7,12 @@ use native.Mathlib.Nat.{lt-of-lt-of-le, lt-of-le-of-lt, pow-suc, le-add-right, l
 use native.Mathlib.Omega.{arith}
 use lib.Dec.{T, eqb, eqb→eq, lit<}
 use lib.Pow.{pow-mono, pow-lt, ones-lt}
-use lib.Bits.{or-lt, xor-lt, and-le-l}
+use lib.Bits.{or-lt, xor-lt, and-le-l, and-le-r}
 use borrow.Author.Tests.{eq-eqb}
 use Rattle.sets.specs.Sets.{digit, member, inRange, onlyIf, full, single, union, common, complement, isEmpty, inside}
 use Rattle.sets.proofs.Digits.{digit-cases, digit-extensional}
-use Rattle.sets.proofs.Members.{true-test, member-digit, member-empty, member-common, in-range}
+use Rattle.sets.proofs.Members.{member-digit, member-empty, member-common, in-range}
+use Rattle.lists.proofs.TestLaws.{true-test}
 
 -- ---- masks stay below 2 ^ 32
 
@@ -99,3 +100,8 @@ common-inside-right a b = inside-iff (common a b) b .1 (λ x t. member-common x 
 pub common-of-inside : (a b : ℕ) → T (inside a b) → common a b ≡ a
 unfolding inside
 common-of-inside a b t = eqb→eq (common a b) a t
+
+-- a set inside a mask is a mask
+pub inside-below : (a b : ℕ) → T (inside a b) → b < 2 ^ 32 → a < 2 ^ 32
+unfolding common
+inside-below a b t h = subst (λ (m : ℕ). m < 2 ^ 32) (common-of-inside a b t) (lt-of-le-of-lt (and-le-r a b) h)

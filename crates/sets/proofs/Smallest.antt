@@ -12,10 +12,10 @@ use lib.Count.{trailingZeros, under}
 use lib.Dec.{T}
 use Rattle.sets.specs.Sets.{member, single, common, complement, inside, listedIf, valuesFrom, values, rising, count, firstOf, smallest, beside, others}
 use Rattle.sets.proofs.Digits.{half-below}
-use Rattle.sets.proofs.Members.{member-range, member-single}
+use Rattle.sets.proofs.Members.{member-range, member-empty, member-single}
 use Rattle.sets.proofs.Sameness.{single-below, inside-iff}
 use Rattle.sets.proofs.Values.{values-step, member-of-listed, listed-of-member, values-rising, rising-above}
-use Rattle.sets.proofs.Counting.{beside-below, member-beside, count-of-single, count-zero, count-falls, count-part}
+use Rattle.sets.proofs.Counting.{beside-below, member-beside, count-of-single, count-zero, count-positive, count-falls, count-part}
 
 two-pos : zero < 2
 two-pos = zero-lt-suc 1
@@ -97,6 +97,16 @@ count-one m h = (forth, λ s. ap count (s .3) ∙ count-of-single (s .0) (s .1) 
             let o : count (single (smallest m)) ≡ 1 = count-of-single (smallest m) (smallest-range m h ne .0) (smallest-range m h ne .1) in
             absurd (omega arith)
 
+-- two members of a set with fewer than two values are the same
+pub count-one-member : (m x y : ℕ) → m < 2 ^ 32 → count m < 2 → member x m → member y m → x ≡ y
+count-one-member m x y h c t u = only x t ∙ sym (only y u)
+  where
+    one : count m ≡ 1
+    one = let p = count-positive m h (λ e. member-empty x (subst (λ (s : ℕ). member x s) e t)) in omega arith
+
+    only : (z : ℕ) → member z m → z ≡ count-one m h .0 one .0
+    only z v = member-single (count-one m h .0 one .0) z .0 (subst (λ (s : ℕ). member z s) (count-one m h .0 one .3) v) .2
+
 pub others-below : (m : ℕ) → m < 2 ^ 32 → others m < 2 ^ 32
 unfolding others
 others-below m h = beside-below (single (smallest m)) m h
@@ -127,6 +137,18 @@ others-above m x h ne t =
     let s = member-others m x h ne .0 t in
     let l : smallest m ≤ x = smallest-least m x h (s .0) .1 in
     lt-of-le-of-ne l (λ e. s .1 (sym e))
+
+-- the others are the members above some member
+pub others-smaller : (m x : ℕ) → m < 2 ^ 32 → member x (others m) ↔ (member x m × ((y : ℕ) × member y m × (y < x)))
+others-smaller m x h = (
+  λ t.
+      let u : member x m = inside-iff (others m) m .0 (others-inside m h) x t in
+      (u, (smallest m, smallest-member m h (has x u), others-above m x h (has x u) t)),
+  λ s. let least = smallest-least m (s .1 .0) h (s .1 .1) .1 in member-others m x h (has x (s .0)) .1 (s .0, λ e. omega arith),
+)
+  where
+    has : (y : ℕ) → member y m → m ≡ 0 → ⊥
+    has y t e = member-empty y (subst (member y) e t)
 
 -- the smallest value and the others make the whole
 pub count-others : (m : ℕ) → m < 2 ^ 32 → (m ≡ 0 → ⊥) → count m ≡ 1 + count (others m)

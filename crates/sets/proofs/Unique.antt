@@ -2,7 +2,7 @@
 use mathlib.Core.Path.{_≡_, sym, _∙_}
 use mathlib.Core.Bool.{Bool}
 use Prim.Native.Nat.{ℕ}
-use Rattle.sets.specs.Promise.{Full, Single, Union, Common, Inside, Complement, Count, Smallest}
+use Rattle.sets.specs.Promise.{Full, Single, Union, Common, Inside, Complement, Count, Smallest, Others}
 
 -- a promise that names its result allows one result
 pub one-result {ℓ} : {A : Type ℓ} {e r s : A} → r ≡ e → s ≡ e → r ≡ s
@@ -31,3 +31,6 @@ count-unique p q = one-result (p .result) (q .result)
 
 pub smallest-unique : {m r s : ℕ} → Smallest m r → Smallest m s → r ≡ s
 smallest-unique p q = one-result (p .result) (q .result)
+
+pub others-unique : {m r s : ℕ} → Others m r → Others m s → r ≡ s
+others-unique p q = one-result (p .result) (q .result)

@@ -1,11 +1,11 @@
 -- What each function of `src/lib.rt` promises. `result` says which number comes back, for every input; the other fields say what it means, by
 -- `member` alone. Assumes nothing.
-use Prim.Native.Nat.{ℕ, zero, suc, _+_, _≤_}
+use Prim.Native.Nat.{ℕ, zero, suc, _+_, _≤_, _<_}
 use mathlib.Core.Path.{_≡_}
 use mathlib.Core.Logic.{_↔_, _⊎_}
 use mathlib.Core.Bool.{Bool, true, false}
 use lib.Dec.{T}
-use Rattle.sets.specs.Sets.{isMember, member, full, single, union, common, inside, complement, count, smallest}
+use Rattle.sets.specs.Sets.{isMember, member, full, single, union, common, inside, complement, count, smallest, others}
 
 -- r is the set {1..n}, or empty where n is above 32
 pub record Full (n r : ℕ) : Type 0 where
@@ -57,3 +57,8 @@ pub record Smallest (m r : ℕ) : Type 0 where
   pub result : r ≡ smallest m
   pub least : (x : ℕ) → member x m → member r m × (r ≤ x)
   pub none : ((x : ℕ) → member x m → ⊥) → r ≡ 0
+
+-- r has the values of m that are not its smallest
+pub record Others (m r : ℕ) : Type 0 where
+  pub result : r ≡ others m
+  pub members : (x : ℕ) → member x r ↔ (member x m × ((y : ℕ) × member y m × (y < x)))

@@ -1,6 +1,6 @@
 // Set arithmetic of the bench's front panel: sets of the values 1 to 32, each the mask of a `Room`.
 // The contracts cite specs/Sets.antt (what each result is) and specs/Promise.antt (what it means).
-ghost use Rattle.sets.specs.Promise.{Full, Single, Union, Common, Inside, Complement, Count, Smallest};
+ghost use Rattle.sets.specs.Promise.{Full, Single, Union, Common, Inside, Complement, Count, Smallest, Others};
 
 // A set of values: the lowest bit of the mask stands for value 1, the highest for value 32.
 pub struct Room {
@@ -92,5 +92,13 @@ impl Room {
             return 0;
         }
         u32::trailing_zeros(self.mask) + 1
+    }
+
+    // The values of this set but the smallest; the empty set where it is empty.
+    pub fn others(self) -> Room
+        ensures { λ r. ⌜ Others (self .mask) (r .mask) ⌝ }
+    {
+        let one = Room::single(self.smallest());
+        self.common(one.complement(Room::VALUES))
     }
 }

@@ -1,16 +1,18 @@
 // What the replies to one file are compared with.
 ghost use Prim.Native.Nat.{_≤_};
-use super::asking::Seen;
 use super::asking::ask;
 use super::buffer::blank;
 use super::buffer::is_assignment;
 use super::buffer::same;
+use super::meaning::Found;
 use super::meaning::assignments;
 use super::meaning::first;
 use super::meaning::meets;
 use super::reading::positions;
 use super::reading::sound;
 use super::reading::values;
+use super::tally::Seen;
+use super::tally::Tally;
 use super::tally::expect;
 
 // The largest allowance that is not refused.
@@ -52,59 +54,72 @@ pub(crate) fn agree(a: Seen, b: Seen) -> bool {
     is(a, b.number, &left) && a.splits == b.splits && a.dead_ends == b.dead_ends
 }
 
-// Compares the reply to a file that is not sound: a refusal from 13 to 20, with a place in the file
-// and with nothing written.
-fn unsound(tally: &mut [u64; 32], file: &[u8]) {
-    let seen = ask(tally, file, 64, MOST);
+// Whether the reply is a refusal from 13 to 20, with a place in a file of a length and with nothing
+// written.
+fn is_fault(seen: Seen, length: usize) -> bool {
+    if seen.number < 13 || 20 < seen.number {
+        return false;
+    }
     let left = seen.bytes;
-    let refused = 13 <= seen.number && seen.number <= 20 && seen.place <= file.len();
-    expect(
-        tally,
-        refused && same(&left, &blank()),
-        b"not refused:",
-        file,
-    );
+    seen.place <= length && same(&left, &blank())
+}
+
+// Compares the reply to a file that is not sound: a refusal.
+fn unsound(tally: Tally, file: &[u8]) -> Tally {
+    let asked = ask(tally, file, 64, MOST);
+    let right = is_fault(asked.seen, file.len());
+    expect(asked, right, b"not refused:", file)
+}
+
+// Whether the reply is what the enumeration found.
+fn is_found(seen: Seen, right: Found) -> bool {
+    let assignment = right.assignment;
+    if right.any {
+        is_plan(seen, &assignment)
+    } else {
+        is_none(seen)
+    }
 }
 
 // Compares the reply to a sound file with what the enumeration finds. There are never as many splits
 // as assignments.
-fn enumerated(tally: &mut [u64; 32], file: &[u8], v: usize, n: usize) -> Seen
+fn enumerated(tally: Tally, file: &[u8], v: usize, n: usize) -> Tally
     requires { ⌜ v ≤ 64 ⌝ }
 {
     let right = first(file, v, n);
-    let assignment = right.assignment;
-    let seen = ask(tally, file, 64, MOST);
-    let agrees = if right.any {
-        is_plan(seen, &assignment)
-    } else {
-        is_none(seen)
-    };
-    let few = seen.splits < assignments(v, n);
-    expect(tally, agrees && few, b"not as enumerated:", file);
-    seen
+    let asked = ask(tally, file, 64, MOST);
+    let agrees = is_found(asked.seen, right) && asked.seen.splits < assignments(v, n);
+    expect(asked, agrees, b"not as enumerated:", file)
+}
+
+// Whether the reply is a plan that meets all rules, NONE, or UNDECIDED with all of the few splits
+// used.
+fn is_possible(seen: Seen, file: &[u8], v: usize, n: usize) -> bool {
+    let left = seen.bytes;
+    if is_none(seen) || is_undecided(seen, FEW) {
+        return true;
+    }
+    is_plan(seen, &left) && is_assignment(&left, v, n) && meets(file, &left, n)
 }
 
 // Compares the reply to a sound file with too many assignments: a plan has to meet all rules.
-fn too_many(tally: &mut [u64; 32], file: &[u8], v: usize, n: usize) -> Seen {
-    let seen = ask(tally, file, 64, FEW);
-    let left = seen.bytes;
-    let planned = is_plan(seen, &left) && is_assignment(&left, v, n) && meets(file, &left, n);
-    let right = planned || is_none(seen) || is_undecided(seen, FEW);
-    expect(tally, right, b"not met:", file);
-    seen
+fn too_many(tally: Tally, file: &[u8], v: usize, n: usize) -> Tally {
+    let asked = ask(tally, file, 64, FEW);
+    let right = is_possible(asked.seen, file, v, n);
+    expect(asked, right, b"not met:", file)
 }
 
 // Compares the reply to any bytes, sound or not.
-pub(crate) fn judge(tally: &mut [u64; 32], file: &[u8]) {
+pub(crate) fn judge(tally: Tally, file: &[u8]) -> Tally {
     if sound(file) {
-        judge_sound(tally, file);
+        judge_sound(tally, file)
     } else {
-        unsound(tally, file);
+        unsound(tally, file)
     }
 }
 
-// Compares the reply to a sound file, and hands it on.
-pub(crate) fn judge_sound(tally: &mut [u64; 32], file: &[u8]) -> Seen {
+// Compares the reply to a sound file.
+pub(crate) fn judge_sound(tally: Tally, file: &[u8]) -> Tally {
     let v = positions(file);
     let n = values(file);
     if assignments(v, n) <= 4096 {

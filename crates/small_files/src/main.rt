@@ -18,6 +18,7 @@ mod buffer;
 mod chance;
 mod compare;
 mod damage;
+mod digits;
 mod drawn;
 mod limits;
 mod meaning;
@@ -28,8 +29,5 @@ mod trying;
 mod writing;
 
 fn main() {
-    let mut tally = [0u64; 32];
-    trying::all(&mut tally);
-    limits::all(&mut tally);
-    tally::print(&tally);
+    tally::print(limits::all(trying::all(tally::none())));
 }

@@ -4,6 +4,7 @@
 ghost use Prim.Native.Nat.{_≤_, _<_};
 use super::buffer::ones;
 use super::buffer::wide;
+use super::reading::behind_atom;
 use super::reading::byte;
 use super::reading::contains;
 use super::reading::next_field;
@@ -19,16 +20,22 @@ fn value_of(assignment: &[u8; 68], position: usize) -> usize {
     wide(assignment[position - 1])
 }
 
-// Whether some atom's position has its value in the atom's set.
+// Whether the position of the atom at the front has its value in the atom's set.
+fn atom_met(atom: &[u8], assignment: &[u8; 68]) -> bool {
+    if atom.len() < 1 {
+        return false;
+    }
+    contains(&atom[1..], value_of(assignment, byte(atom, 0)))
+}
+
+// Whether some atom is met.
 fn clause_met(content: &[u8], assignment: &[u8; 68]) -> bool {
-    let mut i = 0;
-    while i < content.len() / 5 {
-        let at = i * 5;
-        let value = value_of(assignment, byte(content, at));
-        if contains(&content[at + 1..], value) {
+    let mut at = 0;
+    while at < content.len() {
+        if atom_met(&content[at..], assignment) {
             return true;
         }
-        i += 1;
+        at = behind_atom(content, at);
     }
     false
 }

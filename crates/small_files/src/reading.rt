@@ -73,17 +73,35 @@ fn position_fits(position: usize, v: usize) -> bool {
     1 <= position && position <= v
 }
 
+// Whether the atom at the front has a position up to v and values up to n.
+fn atom_fits(atom: &[u8], v: usize, n: usize) -> bool {
+    if atom.len() < 1 {
+        return false;
+    }
+    position_fits(byte(atom, 0), v) && set_fits(&atom[1..], n)
+}
+
 // Whether every atom of a clause has a position up to v and values up to n.
 fn atoms_fit(content: &[u8], v: usize, n: usize) -> bool {
-    let mut i = 0;
-    while i < content.len() / 5 {
-        let at = i * 5;
-        if !position_fits(byte(content, at), v) || !set_fits(&content[at + 1..], n) {
+    let mut at = 0;
+    while at < content.len() {
+        if !atom_fits(&content[at..], v, n) {
             return false;
         }
-        i += 1;
+        at = behind_atom(content, at);
     }
     true
+}
+
+// The place behind the atom at a place, or the end.
+pub(crate) fn behind_atom(content: &[u8], at: usize) -> usize
+    requires { ⌜ at < length (now content) ⌝ }
+    ensures { λ r. ⌜ (at < r) × (r ≤ length (now (content .entry))) ⌝ }
+{
+    if content.len() - at < 5 {
+        return content.len();
+    }
+    at + 5
 }
 
 // Whether every byte is a position up to v.

@@ -1,125 +1,167 @@
 // The systematic files: families in which every file of a kind stands once, each with a number.
-ghost use Prim.Native.Nat.{_≤_, _<_};
+ghost use Prim.Native.Nat.{_≤_};
 ghost use lib.ListN.{length};
-use super::writing::atom;
+use super::digits::last;
+use super::digits::without_last;
 use super::writing::close;
 use super::writing::header;
-use super::writing::open;
-use super::writing::put;
-use super::writing::set;
+use super::writing::item;
+use super::writing::start;
 
-// A number's last digit in a base; the number loses it.
-fn digit(rest: &mut usize, base: usize) -> usize
-    requires { ⌜ 0 < base ⌝ }
-    ensures { λ r. ⌜ r < base ⌝ }
-    ensures { λ _. ⌜ now (rest .exit) ≤ now (rest .entry) ⌝ }
-{
-    let whole = *rest;
-    *rest = whole / base;
-    whole % base
+// A field, or none where the tag is 0. The items that it repeats are given by a number: 0 is no item,
+// then come those of one item, then those of two, and so on. An item is one of v positions and one of
+// so many sets.
+pub struct Field {
+    pub tag: usize,
+    pub values: usize,
+    pub number: usize,
+    pub v: usize,
+    pub sets: usize,
 }
 
-// The clause with a number: clause 0 has no atom, then come those of one atom, then those of two,
-// and so on, for v positions and so many sets.
-fn clause(file: &mut [u8], at: usize, number: usize, v: usize, sets: usize) -> usize
-    requires { ⌜ (0 < v) × (0 < sets) ⌝ }
-    ensures { λ r. ⌜ r ≤ length (now (file .entry)) ⌝ }
-{
-    let mut end = open(file, at, 2);
-    let mut rest = number;
-    while rest > 0 {
-        rest -= 1;
-        let position = digit(&mut rest, v) + 1;
-        let values = digit(&mut rest, sets);
-        end = atom(file, end, position, values);
-    }
-    close(file, at, end);
-    end
+// A file of two fields.
+pub struct Pair {
+    pub v: usize,
+    pub n: usize,
+    pub first: Field,
+    pub second: Field,
 }
 
-// The equality of a set with a list of positions, which is given by its number: list 0 is empty,
-// then come those of one position, then those of two, and so on.
-fn equality(file: &mut [u8], at: usize, values: usize, number: usize, v: usize) -> usize
-    requires { ⌜ 0 < v ⌝ }
-    ensures { λ r. ⌜ r ≤ length (now (file .entry)) ⌝ }
-{
-    let head = open(file, at, 3);
-    let mut end = set(file, head, values);
-    let mut rest = number;
-    while rest > 0 {
-        rest -= 1;
-        let position = digit(&mut rest, v) + 1;
-        end = put(file, end, position);
+// The clause with a number.
+fn clause(number: usize, v: usize, sets: usize) -> Field {
+    Field {
+        tag: 2,
+        values: 0,
+        number,
+        v,
+        sets,
     }
-    close(file, at, end);
-    end
+}
+
+// The equality of a set with the list of positions that has a number.
+fn equality(values: usize, number: usize, v: usize) -> Field {
+    Field {
+        tag: 3,
+        values,
+        number,
+        v,
+        sets: 1,
+    }
 }
 
 // 73 by 73 files: v 2, n 2, two clauses of up to two atoms.
-pub(crate) fn two_clauses(file: &mut [u8], number: usize) -> usize
-    ensures { λ r. ⌜ r ≤ length (now (file .entry)) ⌝ }
-{
-    let mut rest = number;
-    let first = digit(&mut rest, 73);
-    let at = header(file, 2, 2);
-    let at = clause(file, at, first, 2, 4);
-    clause(file, at, rest, 2, 4)
+fn two_clauses(number: usize) -> Pair {
+    Pair {
+        v: 2,
+        n: 2,
+        first: clause(number % 73, 2, 4),
+        second: clause(number / 73, 2, 4),
+    }
 }
 
 // 273 by 17 files: v 2, n 3, a clause of up to two atoms and one of up to one atom.
-pub(crate) fn wider_clauses(file: &mut [u8], number: usize) -> usize
-    ensures { λ r. ⌜ r ≤ length (now (file .entry)) ⌝ }
-{
-    let mut rest = number;
-    let first = digit(&mut rest, 273);
-    let at = header(file, 2, 3);
-    let at = clause(file, at, first, 2, 8);
-    clause(file, at, rest, 2, 8)
+fn wider_clauses(number: usize) -> Pair {
+    Pair {
+        v: 2,
+        n: 3,
+        first: clause(number % 273, 2, 8),
+        second: clause(number / 273, 2, 8),
+    }
 }
 
 // 56 by 56 files: v 2, n 3, two equalities of up to two positions.
-pub(crate) fn two_equalities(file: &mut [u8], number: usize) -> usize
-    ensures { λ r. ⌜ r ≤ length (now (file .entry)) ⌝ }
-{
-    let mut rest = number;
-    let first = digit(&mut rest, 8);
-    let second = digit(&mut rest, 8);
-    let list = digit(&mut rest, 7);
-    let at = header(file, 2, 3);
-    let at = equality(file, at, first, list, 2);
-    equality(file, at, second, rest, 2)
+fn two_equalities(number: usize) -> Pair {
+    Pair {
+        v: 2,
+        n: 3,
+        first: equality(number % 8, number / 64 % 7, 2),
+        second: equality(number / 8 % 8, number / 448, 2),
+    }
 }
 
 // 73 by 60 files: v 2, n 2, a clause of up to two atoms and an equality of up to three positions.
-pub(crate) fn clause_and_equality(file: &mut [u8], number: usize) -> usize
-    ensures { λ r. ⌜ r ≤ length (now (file .entry)) ⌝ }
-{
-    let mut rest = number;
-    let first = digit(&mut rest, 73);
-    let values = digit(&mut rest, 4);
-    let at = header(file, 2, 2);
-    let at = clause(file, at, first, 2, 4);
-    equality(file, at, values, rest, 2)
+fn clause_and_equality(number: usize) -> Pair {
+    Pair {
+        v: 2,
+        n: 2,
+        first: clause(number % 73, 2, 4),
+        second: equality(number / 73 % 4, number / 292, 2),
+    }
 }
 
 // 320 by 25 files: v 3, n 3, an equality of up to three positions and a clause of up to one atom.
-pub(crate) fn equality_and_clause(file: &mut [u8], number: usize) -> usize
-    ensures { λ r. ⌜ r ≤ length (now (file .entry)) ⌝ }
-{
-    let mut rest = number;
-    let values = digit(&mut rest, 8);
-    let list = digit(&mut rest, 40);
-    let at = header(file, 3, 3);
-    let at = equality(file, at, values, list, 3);
-    clause(file, at, rest, 3, 8)
+fn equality_and_clause(number: usize) -> Pair {
+    Pair {
+        v: 3,
+        n: 3,
+        first: equality(number % 8, number / 8 % 40, 3),
+        second: clause(number / 320, 3, 8),
+    }
 }
 
 // 16 by 341 files: v 4, n 4, an equality of up to four positions.
-pub(crate) fn one_equality(file: &mut [u8], number: usize) -> usize
+fn one_equality(number: usize) -> Pair {
+    let second = Field {
+        tag: 0,
+        values: 0,
+        number: 0,
+        v: 0,
+        sets: 0,
+    };
+    Pair {
+        v: 4,
+        n: 4,
+        first: equality(number % 16, number / 16, 4),
+        second,
+    }
+}
+
+// The file of a family with a number.
+fn pair_of(family: usize, number: usize) -> Pair {
+    match family {
+        0 => two_clauses(number),
+        1 => wider_clauses(number),
+        2 => two_equalities(number),
+        3 => clause_and_equality(number),
+        4 => equality_and_clause(number),
+        _ => one_equality(number),
+    }
+}
+
+// Writes the file of a family with a number, and answers its length.
+pub(crate) fn write(file: &mut [u8], family: usize, number: usize) -> usize
     ensures { λ r. ⌜ r ≤ length (now (file .entry)) ⌝ }
 {
-    let mut rest = number;
-    let values = digit(&mut rest, 16);
-    let at = header(file, 4, 4);
-    equality(file, at, values, rest, 4)
+    let pair = pair_of(family, number);
+    let at = header(file, pair.v, pair.n);
+    let at = write_field(file, at, pair.first);
+    if pair.second.tag == 0 {
+        return at;
+    }
+    write_field(file, at, pair.second)
+}
+
+// Writes a field.
+fn write_field(file: &mut [u8], at: usize, field: Field) -> usize
+    ensures { λ r. ⌜ r ≤ length (now (file .entry)) ⌝ }
+{
+    let mut end = start(file, at, field.tag, field.values);
+    let mut rest = field.number;
+    while rest > 0 {
+        rest -= 1;
+        end = write_item(file, end, rest, field);
+        rest = without_last(without_last(rest, field.v), field.sets);
+    }
+    close(file, at, end);
+    end
+}
+
+// Writes the item that a number ends with: its last digit is the position, and the one before it the
+// set.
+fn write_item(file: &mut [u8], at: usize, number: usize, field: Field) -> usize
+    ensures { λ r. ⌜ r ≤ length (now (file .entry)) ⌝ }
+{
+    let position = last(number, field.v);
+    let values = last(without_last(number, field.v), field.sets);
+    item(file, at, field.tag, position + 1, values)
 }

@@ -27,72 +27,141 @@ const MODULUS: u64 = 4_294_967_296;
 // differs is lost again behind it.
 const FACTOR: u64 = 1_000_003;
 
-// Adds to a count. A place that is none of the 32 changes nothing.
-pub(crate) fn add(tally: &mut [u64; 32], place: usize, more: u64) {
-    if place < 32 {
-        tally[place] = std::num::wrapping_add_u64(tally[place], more);
+// A reply as 01's number, place, splits and dead ends, and the bytes after the call.
+pub struct Seen {
+    pub number: usize,
+    pub place: usize,
+    pub splits: u64,
+    pub dead_ends: u64,
+    pub bytes: [u8; 68],
+}
+
+// The counts, and the reply that was seen last.
+pub struct Tally {
+    pub counts: [u64; 32],
+    pub seen: Seen,
+}
+
+// Before the first file.
+pub(crate) fn none() -> Tally {
+    let seen = Seen {
+        number: 0,
+        place: 0,
+        splits: 0,
+        dead_ends: 0,
+        bytes: [0; 68],
+    };
+    Tally {
+        counts: [0; 32],
+        seen,
     }
+}
+
+// Adds to a count. A place that is none of the 32 changes nothing.
+pub(crate) fn add(tally: Tally, place: usize, more: u64) -> Tally {
+    let mut next = tally;
+    if place < 32 {
+        next.counts[place] = std::num::wrapping_add_u64(tally.counts[place], more);
+    }
+    next
 }
 
 // Takes one number more into the checksum, behind all that were taken before. By the 1 a number 0
 // counts too.
-pub(crate) fn append(tally: &mut [u64; 32], number: u64) {
-    let sum = tally[CHECKSUM] % MODULUS;
-    tally[CHECKSUM] = (sum * FACTOR + number % MODULUS + 1) % MODULUS;
+pub(crate) fn append(tally: Tally, number: u64) -> Tally {
+    let sum = tally.counts[CHECKSUM] % MODULUS;
+    let mut next = tally;
+    next.counts[CHECKSUM] = (sum * FACTOR + number % MODULUS + 1) % MODULUS;
+    next
 }
 
 // Counts a comparison, and a difference where it did not hold. The bytes of the first file with a
 // difference are printed, after what was compared.
-pub(crate) fn expect(tally: &mut [u64; 32], holds: bool, what: &[u8], file: &[u8]) {
-    add(tally, COMPARISONS, 1);
+pub(crate) fn expect(tally: Tally, holds: bool, what: &[u8], file: &[u8]) -> Tally {
+    let next = add(tally, COMPARISONS, 1);
     if holds {
-        return;
+        return next;
     }
-    if tally[DIFFERENCES] == 0 {
-        io::write_all(STDOUT_FILENO, what);
-        print_bytes(file);
-        io::write_all(STDOUT_FILENO, b"\n");
+    if tally.counts[DIFFERENCES] == 0 {
+        print_file(what, file);
     }
-    add(tally, DIFFERENCES, 1);
+    add(next, DIFFERENCES, 1)
 }
+
+// Prints what was compared and the bytes of a file.
+fn print_file(what: &[u8], file: &[u8]) {
+    io::write_all(STDOUT_FILENO, what);
+    print_bytes(file);
+    io::write_all(STDOUT_FILENO, b"\n");
+}
+
+// The places whose counts are printed, in this order: FILES and DAMAGED, the replies by their
+// numbers, SPLITS, DEAD_ENDS, PLACES, CHECKSUM, COMPARISONS and DIFFERENCES.
+const PRINTED: [usize; 23] = [
+    22,
+    23,
+    0,
+    1,
+    2,
+    10,
+    11,
+    12,
+    13,
+    14,
+    15,
+    16,
+    17,
+    18,
+    19,
+    20,
+    21,
+    24,
+    25,
+    26,
+    29,
+    27,
+    28,
+];
 
 // Prints all counts, a line for each.
-pub(crate) fn print(tally: &[u64; 32]) {
-    line(b"files ", tally[FILES]);
-    line(b"damaged files ", tally[DAMAGED]);
-    line(b"PLAN ", tally[0]);
-    line(b"NONE ", tally[1]);
-    line(b"UNDECIDED ", tally[2]);
-    print_refusals(tally);
-    line(b"stalled, 21: ", tally[21]);
-    line(b"splits ", tally[SPLITS]);
-    line(b"dead ends ", tally[DEAD_ENDS]);
-    line(b"places ", tally[PLACES]);
-    line(b"checksum ", tally[CHECKSUM]);
-    line(b"comparisons ", tally[COMPARISONS]);
-    line(b"differences ", tally[DIFFERENCES]);
+pub(crate) fn print(tally: Tally) {
+    fill(
+        tally,
+        b"files #\ndamaged files #\nPLAN #\nNONE #\nUNDECIDED #\n\
+          refused, 10: #\nrefused, 11: #\nrefused, 12: #\nrefused, 13: #\n\
+          refused, 14: #\nrefused, 15: #\nrefused, 16: #\nrefused, 17: #\n\
+          refused, 18: #\nrefused, 19: #\nrefused, 20: #\nstalled, 21: #\n\
+          splits #\ndead ends #\nplaces #\nchecksum #\ncomparisons #\ndifferences #\n",
+    );
 }
 
-// Prints how often each refusal was met.
-fn print_refusals(tally: &[u64; 32]) {
-    line(b"refused, 10: ", tally[10]);
-    line(b"refused, 11: ", tally[11]);
-    line(b"refused, 12: ", tally[12]);
-    line(b"refused, 13: ", tally[13]);
-    line(b"refused, 14: ", tally[14]);
-    line(b"refused, 15: ", tally[15]);
-    line(b"refused, 16: ", tally[16]);
-    line(b"refused, 17: ", tally[17]);
-    line(b"refused, 18: ", tally[18]);
-    line(b"refused, 19: ", tally[19]);
-    line(b"refused, 20: ", tally[20]);
+// Prints a form, with the next count in place of each `#`.
+fn fill(tally: Tally, form: &[u8]) {
+    let mut next = 0;
+    for i in 0..form.len() {
+        next = print_piece(tally, form[i], next);
+    }
 }
 
-// A line with a name and a number.
-fn line(name: &[u8], number: u64) {
-    io::write_all(STDOUT_FILENO, name);
-    io::print_decimal(STDOUT_FILENO, number);
-    io::write_all(STDOUT_FILENO, b"\n");
+// Prints one byte of a form, and answers which count is the next then.
+fn print_piece(tally: Tally, byte: u8, next: usize) -> usize {
+    if byte == b'#' {
+        return print_count(tally, next);
+    }
+    io::write_all(STDOUT_FILENO, &[byte]);
+    next
+}
+
+// Prints a count, and answers which one is the next.
+fn print_count(tally: Tally, next: usize) -> usize {
+    if next < 23 {
+        let place = PRINTED[next];
+        if place < 32 {
+            io::print_decimal(STDOUT_FILENO, tally.counts[place]);
+        }
+        return next + 1;
+    }
+    next
 }
 
 // The bytes of a file in decimal, with a space before each.

@@ -9,7 +9,10 @@ use super::limits::buffers;
 use super::limits::largest_allowances;
 use super::reading::sound;
 use super::systematic;
-use super::tally;
+use super::tally::FILES;
+use super::tally::Tally;
+use super::tally::add;
+use super::tally::expect;
 
 // How many files each family has: all that there are of the first six, which are systematic, and
 // enough of the four that are drawn.
@@ -27,62 +30,62 @@ const SIZES: [usize; 10] = [
 ];
 
 // All families. The pseudo-random numbers go on from file to file.
-pub(crate) fn all(tally: &mut [u64; 32]) {
+pub(crate) fn all(before: Tally) -> Tally {
+    let mut tally = before;
     let mut state = 20_251;
     for family in 0..SIZES.len() {
-        every(tally, &mut state, family, SIZES[family]);
+        tally = every(tally, &mut state, family, SIZES[family]);
     }
+    tally
 }
 
 // Every file of a family.
-fn every(tally: &mut [u64; 32], state: &mut usize, family: usize, size: usize) {
+fn every(before: Tally, state: &mut usize, family: usize, size: usize) -> Tally {
+    let mut tally = before;
     for number in 0..size {
-        one(tally, state, family, number);
+        tally = one(tally, state, family, number);
     }
+    tally
 }
 
-// Makes a file of a family, the one with a number or one that is drawn, and tries it. Every hundredth
-// is tried at the limits and damaged too.
-fn one(tally: &mut [u64; 32], state: &mut usize, family: usize, number: usize) {
+// Makes a file of a family, the one with a number or one that is drawn, and tries it.
+fn one(tally: Tally, state: &mut usize, family: usize, number: usize) -> Tally {
     let mut space = [0u8; 256];
     let bytes: &mut [u8] = &mut space;
     let len = make(bytes, state, family, number);
-    try_file(tally, &bytes[..len]);
-    if number % 100 == 0 {
-        try_limits(tally, &bytes[..len]);
-        damaged(tally, state, &mut bytes[..len]);
-    }
+    try_made(tally, state, &mut bytes[..len], number)
 }
 
 // Makes a file of a family and answers its length.
 fn make(file: &mut [u8], state: &mut usize, family: usize, number: usize) -> usize
     ensures { λ r. ⌜ r ≤ length (now (file .entry)) ⌝ }
 {
-    match family {
-        0 => systematic::two_clauses(file, number),
-        1 => systematic::wider_clauses(file, number),
-        2 => systematic::two_equalities(file, number),
-        3 => systematic::clause_and_equality(file, number),
-        4 => systematic::equality_and_clause(file, number),
-        5 => systematic::one_equality(file, number),
-        6 => drawn::small(file, state),
-        7 => drawn::clauses(file, state),
-        8 => drawn::equalities(file, state),
-        _ => drawn::wide(file, state),
+    if family < 6 {
+        systematic::write(file, family, number)
+    } else {
+        drawn::write(file, state, family)
     }
 }
 
+// Tries a file. Every hundredth of a family is tried at the limits and damaged too.
+fn try_made(tally: Tally, state: &mut usize, file: &mut [u8], number: usize) -> Tally {
+    let tried = try_file(tally, file);
+    if number % 100 == 0 {
+        return damaged(try_limits(tried, file), state, file);
+    }
+    tried
+}
+
 // Tries a file that has to be sound: with the largest allowance, and with the small ones.
-fn try_file(tally: &mut [u64; 32], file: &[u8]) {
-    tally::add(tally, tally::FILES, 1);
-    tally::expect(tally, sound(file), b"not sound:", file);
-    let full = judge_sound(tally, file);
-    allowances(tally, file, full);
+fn try_file(before: Tally, file: &[u8]) -> Tally {
+    let mut tally = add(before, FILES, 1);
+    tally = expect(tally, sound(file), b"not sound:", file);
+    tally = judge_sound(tally, file);
+    allowances(tally, file, tally.seen)
 }
 
 // Tries a file with all lengths of the answer buffer and with allowances about the limit.
-fn try_limits(tally: &mut [u64; 32], file: &[u8]) {
-    let full = judge_sound(tally, file);
-    buffers(tally, file, full);
-    largest_allowances(tally, file, full);
+fn try_limits(before: Tally, file: &[u8]) -> Tally {
+    let tally = judge_sound(before, file);
+    largest_allowances(buffers(tally, file, tally.seen), file, tally.seen)
 }

@@ -29,7 +29,7 @@ pub(crate) fn header(file: &mut [u8], v: usize, n: usize) -> usize
 }
 
 // Writes a field's tag, and leaves two bytes for its length.
-pub(crate) fn open(file: &mut [u8], at: usize, tag: usize) -> usize
+fn open(file: &mut [u8], at: usize, tag: usize) -> usize
     ensures { λ r. ⌜ r ≤ length (now (file .entry)) ⌝ }
 {
     let at = put(file, at, tag);
@@ -50,7 +50,7 @@ pub(crate) fn close(file: &mut [u8], from: usize, to: usize) {
 }
 
 // Writes a set as four bytes, high byte first.
-pub(crate) fn set(file: &mut [u8], at: usize, set: usize) -> usize
+fn set(file: &mut [u8], at: usize, set: usize) -> usize
     ensures { λ r. ⌜ r ≤ length (now (file .entry)) ⌝ }
 {
     let at = put(file, at, set / 16777216);
@@ -59,10 +59,24 @@ pub(crate) fn set(file: &mut [u8], at: usize, set: usize) -> usize
     put(file, at, set)
 }
 
-// Writes an atom.
-pub(crate) fn atom(file: &mut [u8], at: usize, position: usize, values: usize) -> usize
+// Writes the start of a field: its head, and the set of an equality.
+pub(crate) fn start(file: &mut [u8], at: usize, tag: usize, values: usize) -> usize
+    ensures { λ r. ⌜ r ≤ length (now (file .entry)) ⌝ }
+{
+    let at = open(file, at, tag);
+    if tag == 3 {
+        return set(file, at, values);
+    }
+    at
+}
+
+// Writes what a field repeats: a position, and the set of an atom where the field is a clause.
+pub(crate) fn item(file: &mut [u8], at: usize, tag: usize, position: usize, values: usize) -> usize
     ensures { λ r. ⌜ r ≤ length (now (file .entry)) ⌝ }
 {
     let at = put(file, at, position);
-    set(file, at, values)
+    if tag == 2 {
+        return set(file, at, values);
+    }
+    at
 }

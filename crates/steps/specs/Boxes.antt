@@ -1,12 +1,11 @@
 -- Boxes of rooms: the values still open for each position. Assumes nothing.
-use Prim.Native.Nat.{ℕ, _+_, _*_, _-_, _<_}
+use Prim.Native.Nat.{ℕ, _+_, _*_, _-_, _^_, _<_}
 use mathlib.Core.Path.{_≡_}
 use mathlib.Core.List.{List, [], _∷_, map}
 use lib.Dec.{T}
 use lib.ListN.{getD, set, replicate}
 use Rattle.sets.specs.Sets.{member, full, single, inside, count, smallest, others}
-use Prim.Native.Nat.{_^_}
-use Rattle.rules.specs.Lists.{Every}
+use Rattle.lists.specs.Lists.{Every}
 
 -- A box is the list of the rooms of positions 1 to v in turn.
 
@@ -54,9 +53,10 @@ Rooms box = Every (λ room. (room < 2 ^ 32) × (room ≡ 0 → ⊥)) box
 unfoldable pub smallestOf : List ℕ → List ℕ
 smallestOf box = map smallest box
 
--- the two halves of a box at the room with an index: its smallest value alone, and the others
+-- the first half of a box at the room with an index: its smallest value alone
 unfoldable pub firstHalf : ℕ → List ℕ → List ℕ
 firstHalf i box = set box i (single (smallest (getD box i 0)))
 
+-- the other half: the other values of that room
 unfoldable pub otherHalf : ℕ → List ℕ → List ℕ
 otherHalf i box = set box i (others (getD box i 0))

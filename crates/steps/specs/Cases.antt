@@ -9,6 +9,7 @@ pub record Case : Type 0 where
   pub allowed : ℕ
   pub reply : Reply
 
+-- a case whose reply has no place: it is no refusal
 unfoldable pub case : List ℕ → ℕ → ℕ → ℕ → ℕ → List ℕ → Case
 case bytes allowed number splits deadEnds values =
     record { bytes = bytes; allowed = allowed; reply = record { number = number; place = 0; splits = splits; deadEnds = deadEnds; values = values } }

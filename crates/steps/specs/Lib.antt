@@ -1,6 +1,7 @@
 pub mod Boxes
 pub mod Shrinking
-pub mod Search
 pub mod Reply
+pub mod Search
+pub mod Table
 pub mod Special
 pub mod Cases

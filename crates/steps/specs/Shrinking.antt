@@ -1,4 +1,4 @@
--- Steps 1 and 2 of the search: looking at clauses, shrinking, and when a box is settled. Assumes nothing.
+-- Steps 1 and 2 of the search: looking at the parts of rules, shrinking, and when a box is settled. Assumes nothing.
 use Prim.Native.Nat.{ℕ, zero, suc, _+_}
 use mathlib.Core.Bool.{Bool, true, false, not, _&&_, _||_}
 use mathlib.Core.List.{List, [], _∷_}
@@ -6,10 +6,10 @@ use lib.Dec.{eqb}
 use Rattle.sets.specs.Sets.{union, common, inside, isEmpty}
 use Rattle.rules.specs.declared.field.Atom.{Atom}
 use Rattle.rules.specs.Rules.{Rule, Field}
-use Rattle.rules.specs.Clauses.{clausesOf}
+use Rattle.rules.specs.Parts.{Part, oneOf, partsOf}
 use Rattle.steps.specs.Boxes.{roomAt, withRoom, openValues}
 
--- what a look finds: a clause that no assignment of the box meets, in the field with this place; or the box as it is afterwards
+-- what a look finds: something that no assignment of the box meets, in the field with this place; or the box as it is afterwards
 pub data Look : Type 0 where
   dead : ℕ → Look
   alive : List ℕ → Look
@@ -59,24 +59,57 @@ lookBy [] place atoms box = dead place
 lookBy (p ∷ []) place atoms box = alive (cut atoms p box)
 lookBy (p ∷ q ∷ ps) place atoms box = alive box
 
+-- a look at a clause: by its live positions
 unfoldable pub lookClause : ℕ → List Atom → List ℕ → Look
 lookClause place atoms box = lookBy (liveFrom atoms 1 box) place atoms box
 
--- ---- a rule, a round, shrinking
+-- some atom's position has its room inside the union of its sets in the clause
+unfoldable pub settledBy : List Atom → List Atom → List ℕ → Bool
+settledBy [] atoms box = false
+settledBy (a ∷ more) atoms box = inside (roomAt box (a .position)) (united (a .position) atoms) || settledBy more atoms box
 
--- the clauses one after the other, each room cut at once
-unfoldable pub lookClauses : ℕ → List (List Atom) → List ℕ → Look
-lookClauses place [] box = alive box
-lookClauses place (c ∷ cs) box = ifAlive (lookClause place c box) (λ p. dead p) λ box′. lookClauses place cs box′
+-- a clause is settled by one of its own atoms
+unfoldable pub settledClause : List ℕ → List Atom → Bool
+settledClause box atoms = settledBy atoms atoms box
 
-unfoldable pub lookRule : ℕ → Rule → List ℕ → Look
-lookRule place rule box = lookClauses place (clausesOf rule) box
+-- ---- a part of a rule: "one of these atoms" is a clause
+
+-- whether a position with this room is live in a part
+abbrev pub isLiveIn : Part → ℕ → ℕ → Bool
+isLiveIn (oneOf atoms) p room = isLive atoms p room
+
+-- a look at a part
+abbrev pub lookPart : ℕ → Part → List ℕ → Look
+lookPart place (oneOf atoms) box = lookClause place atoms box
+
+-- whether every assignment of the box meets the part already
+abbrev pub settledPart : List ℕ → Part → Bool
+settledPart box (oneOf atoms) = settledClause box atoms
+
+-- ---- looks in turn: a rule, a round, shrinking
+
+-- a look at each of a list in turn, each room cut at once; a dead one ends it
+unfoldable pub inTurn : {A : Type 0} → (A → List ℕ → Look) → List A → List ℕ → Look
+inTurn look [] box = alive box
+inTurn look (x ∷ xs) box = ifAlive (look x box) (λ p. dead p) λ box′. inTurn look xs box′
+
+-- a look at some parts, one after the other
+abbrev pub lookParts : ℕ → List Part → List ℕ → Look
+lookParts place parts box = inTurn (lookPart place) parts box
+
+-- a look at a rule: at its parts
+abbrev pub lookRule : ℕ → Rule → List ℕ → Look
+lookRule place rule box = lookParts place (partsOf rule) box
+
+-- a look at a field: at its rule, and dead at its place
+abbrev pub lookField : Field → List ℕ → Look
+lookField f box = lookRule (f .place) (f .rule) box
 
 -- a round goes once through all fields in file order
-unfoldable pub round : List Field → List ℕ → Look
-round [] box = alive box
-round (f ∷ fs) box = ifAlive (lookRule (f .place) (f .rule) box) (λ p. dead p) λ box′. round fs box′
+abbrev pub round : List Field → List ℕ → Look
+round fields box = inTurn lookField fields box
 
+-- whether two boxes have the same rooms
 unfoldable pub sameRooms : List ℕ → List ℕ → Bool
 sameRooms [] [] = true
 sameRooms [] (s ∷ b) = false
@@ -91,27 +124,25 @@ shrink (suc k) fields box =
     ifTest (sameRooms box′ box) (alive box′) λ _.
     shrink k fields box′
 
+-- shrinking: one round more than there are open values is enough
 unfoldable pub shrunk : List Field → List ℕ → Look
 shrunk fields box = shrink (suc (openValues box)) fields box
 
 -- ---- settled
 
--- some atom's position has its room inside the union of its sets in the clause
-unfoldable pub settledBy : List Atom → List Atom → List ℕ → Bool
-settledBy [] atoms box = false
-settledBy (a ∷ more) atoms box = inside (roomAt box (a .position)) (united (a .position) atoms) || settledBy more atoms box
+-- whether all of a list pass the test
+unfoldable pub allOf : {A : Type 0} → (A → Bool) → List A → Bool
+allOf test [] = true
+allOf test (x ∷ xs) = test x && allOf test xs
 
-unfoldable pub settledClause : List ℕ → List Atom → Bool
-settledClause box atoms = settledBy atoms atoms box
+-- each of the parts is settled
+abbrev pub settledParts : List ℕ → List Part → Bool
+settledParts box parts = allOf (settledPart box) parts
 
-unfoldable pub settledClauses : List ℕ → List (List Atom) → Bool
-settledClauses box [] = true
-settledClauses box (c ∷ cs) = settledClause box c && settledClauses box cs
+-- each part of the rule is settled
+abbrev pub settledRule : List ℕ → Rule → Bool
+settledRule box rule = settledParts box (partsOf rule)
 
-unfoldable pub settledRule : List ℕ → Rule → Bool
-settledRule box rule = settledClauses box (clausesOf rule)
-
--- every clause of every field has such a position
-unfoldable pub settled : List Field → List ℕ → Bool
-settled [] box = true
-settled (f ∷ fs) box = settledRule box (f .rule) && settled fs box
+-- the rule of every field is settled
+abbrev pub settled : List Field → List ℕ → Bool
+settled fields box = allOf (λ f. settledRule box (f .rule)) fields

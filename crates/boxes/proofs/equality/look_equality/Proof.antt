@@ -1,8 +1,18 @@
 -- `boxes::equality::look_equality` meets its contract: the clauses of the positions, then those of the values. Assumes nothing.
+use mathlib.Core.Path.{refl, sym, subst}
+use mathlib.Core.List.{[], _∷_}
+use Prim.Native.Nat.{_-_}
+use lib.ListN.{length, take, drop}
 use borrow.Author.Needs.{needs}
 use borrow.Author.Tests.{not-true, not-false}
-use Rattle.rules.proofs.ByteLaws.{rest-part}
-use Rattle.boxes.proofs.EqualityLooks.{positions-part, equality-dead, equality-then}
+use Rattle.rules.specs.declared.field.Tag.the-variants.{Equality}
+use Rattle.rules.specs.Contents.{Positions}
+use Rattle.rules.specs.Reading.{ruleOf}
+use Rattle.lists.proofs.TakeDrop.{rest-part}
+use Rattle.steps.specs.Shrinking.{lookParts, lookRule}
+use Rattle.rules.specs.Parts.{eachInside, eachTaken}
+use Rattle.boxes.proofs.EqualityLooks.{equality-left}
+use Rattle.boxes.proofs.LooksInTurn.{LeftToLook, left-dead-leaves, left-then, left-last, parts-keep}
 use Rattle.boxes.proofs.equality.look_equality.Statement.{statement}
 use Rattle.boxes.proofs.equality.look_equality.Tie as tie
 
@@ -21,33 +31,37 @@ part-positions-end c = search needs
 sub-look-inside : tie.Need-sub-look-inside
 sub-look-inside c = search needs
 
+-- the positions behind the set
+positions : (c : tie.Start) → Positions (c .args .v) (c .args .len - 4) (take (length (c .args .content .now) - 4) (drop 4 (c .args .content .now)))
+positions c = subst (Positions (c .args .v) (c .args .len - 4)) (sym (rest-part 4 (c .args .content .now))) (c .pre .2)
+
 look-inside-requires : tie.Need-look-inside-requires
-look-inside-requires c κs =
-    let start = c .before .before .before .before in
-    positions-part (start .args .len) (start .args .v) (start .args .content .now) (start .pre .1) (start .pre .2) (start .pre .3)
+look-inside-requires c κs = positions (c .before .before .before .before)
+
+-- at the start both parts of its clauses are left
+left : (c : tie.After-set-at)
+    → LeftToLook lookParts lookRule (ruleOf Equality (c .before .before .args .len) (c .before .before .args .content .now))
+    (eachInside (c .set-at .result) (take (c .before .before .args .len - 4) (take (length (c .before .before .args .content .now) - 4) (drop 4 (c .before .before .args .content .now))))
+    ∷ eachTaken (c .set-at .result) (take (c .before .before .args .len - 4) (take (length (c .before .before .args .content .now) - 4) (drop 4 (c .before .before .args .content .now)))) ∷ [])
+    (c .before .before .args .v) (c .before .before .args .rooms .now) (c .before .before .args .rooms .now)
+left c =
+    let a = c .before .before .args in
+    equality-left (a .len) (c .set-at .result) (a .v) (a .content .now) _ (a .rooms .now) (c .set-at .ensures) (rest-part 4 (a .content .now))
 
 returns : tie.Need-returns
-returns c =
-    let start = c .before .before .before .before .before .before in
-    let a = start .args in
-    equality-dead (a .len) (c .before .before .before .before .set-at .result) (a .v) (a .content .now) _ (a .rooms .now) _ (c .before .look-inside .result)
-    (c .before .before .before .before .set-at .ensures) (rest-part 4 (a .content .now)) (c .before .look-inside .ensures) (not-true _ (c .if1 .taken))
+returns c = left-dead-leaves (left (c .before .before .before .before)) refl (c .before .look-inside .ensures) (not-true _ (c .if1 .taken)) (c .before .look-inside .last .0)
 
 sub-look-values : tie.Need-sub-look-values
 sub-look-values c = search needs
 
 look-values-requires : tie.Need-look-values-requires
-look-values-requires c κs =
-    let start = c .before .before .before .before .before .before .before in
-    positions-part (start .args .len) (start .args .v) (start .args .content .now) (start .pre .1) (start .pre .2) (start .pre .3)
+look-values-requires c κs = positions (c .before .before .before .before .before .before .before)
 
 returns-2 : tie.Need-returns-2
 returns-2 c =
     let first = c .before .before .before in
-    let a = first .before .before .before .before .before .args in
-    equality-then (a .len) (first .before .before .before .set-at .result) (a .v) (a .content .now) _ (a .rooms .now) _ (first .look-inside .result)
-    (first .before .before .before .set-at .ensures) (rest-part 4 (a .content .now)) (first .look-inside .ensures) (not-false _ (c .before .before .if1 .left))
-    (c .look-values .result) _ (c .look-values .ensures)
+    left-last (left-then (left (first .before .before .before)) refl (first .look-inside .ensures) (λ place k. parts-keep place _ k) (not-false _ (c .before .before .if1 .left))) refl
+    (c .look-values .ensures)
 
 pub look-equality-spec : {M : Type 1} → statement M
 look-equality-spec =

@@ -1,24 +1,39 @@
 -- `boxes::equality::look_inside` meets its contract. The loop: the clauses of the positions from `i` on are left to look at; the measure is how many those are. Assumes nothing.
-use mathlib.Core.List.{[], _∷_, map}
-use Prim.Native.Nat.{_-_, _≤_}
+use mathlib.Core.Path.{refl, _≡_, ap}
+use mathlib.Core.Bool.{true, false}
+use mathlib.Core.List.{[], _∷_}
+use Prim.Native.Nat.{_+_, _-_, _≤_}
 use native.Mathlib.Omega.{arith}
-use lib.ListN.{take, drop}
+use lib.ListN.{getD, take, drop}
 use borrow.Author.Tests.{not-true, not-false}
-use Rattle.rules.specs.Clauses.{atomIn}
-use Rattle.boxes.proofs.LooksInTurn.{LeftToLook, left-all, left-dead, left-then, left-none}
-use Rattle.boxes.proofs.EqualityLooks.{next-position, no-position, position-fits}
+use Rattle.steps.specs.Shrinking.{lookPart, lookParts}
+use Rattle.lists.proofs.FrontParts.{front-on, front-end}
+use Rattle.rules.specs.Parts.{oneOf, atomIn, eachInside}
+use Rattle.clauses.proofs.PositionsInTurn.{position-fits}
+use Rattle.boxes.proofs.LooksInTurn.{LeftToLook, left-all, left-none, left-dead-leaves, left-then, clause-keeps}
 use Rattle.boxes.proofs.equality.look_inside.Statement.{statement}
 use Rattle.boxes.proofs.equality.look_inside.Tie as tie
 
 abbrev Inv-loop : tie.InvT-loop
 Inv-loop rooms₀ positions count mask v i₀ rooms i =
-    (i ≤ count) × LeftToLook (map (λ p. atomIn mask p ∷ []) (take count positions)) (map (λ p. atomIn mask p ∷ []) (drop i (take count positions))) v rooms₀ rooms
+    (i ≤ count) × LeftToLook lookPart lookParts (eachInside mask (take count positions)) (eachInside mask (drop i (take count positions))) v rooms₀ rooms
 
 abbrev μ-loop : tie.MeasureT-loop
 μ-loop rooms₀ positions count mask v i₀ rooms i = count - i
 
+-- the clause of the position at the index is the next
+next : (c : tie.In-loop Inv-loop μ-loop)
+    → eachInside (c .before .before .before .args .mask) (drop (c .before .loop .i) (take (c .before .before .before .args .count) (c .before .before .before .args .positions .now)))
+    ≡ oneOf (atomIn (c .before .before .before .args .mask) (getD (c .before .before .before .args .positions .now) (c .before .loop .i) 0) ∷ [])
+    ∷ eachInside (c .before .before .before .args .mask) (drop (c .before .loop .i + 1) (take (c .before .before .before .args .count) (c .before .before .before .args .positions .now)))
+next c =
+    let a = c .before .before .before .args in
+    ap (eachInside (a .mask)) (front-on (a .count) (c .before .loop .i) (a .positions .now) (c .before .before .before .pre .there) (c .loop-test .taken))
+
 loop-holds : tie.Need-loop-holds Inv-loop μ-loop
-loop-holds c = (omega arith, left-all _ _ _)
+loop-holds c =
+    let a = c .before .args in
+    (omega arith, left-all (λ place box. refl) (a .v) (a .rooms .now))
 
 shared-slice-read-look-single : tie.Need-shared-slice-read-look-single Inv-loop μ-loop
 shared-slice-read-look-single c = omega arith
@@ -28,17 +43,14 @@ cast-look-single c = omega (arith, c .shared-slice-known2 .given (c .before .bef
 
 look-single-requires : tie.Need-look-single-requires Inv-loop μ-loop
 look-single-requires c κs =
-    let a = c .before .before .before .before .before .args in
     let pre = c .before .before .before .before .before .pre in
-    let fit = position-fits (a .v) (a .count) (c .before .before .before .loop .i) (a .positions .now) (pre .2) (omega arith) (omega arith) in
-    (fit .0, fit .1, pre .1)
+    let fit = position-fits pre (c .before .before .before .loop .i) (omega arith) in
+    (fit .0, fit .1, pre .few)
 
 returns : tie.Need-returns Inv-loop μ-loop
 returns c =
     let turn = c .before .before .before .before in
-    let a = turn .before .before .before .args in
-    left-dead _ _ (turn .before .loop .inv .1) (next-position _ (a .count) (turn .before .loop .i) (a .positions .now) (omega arith) (omega arith)) _
-    (c .before .look-single .ensures) (not-true _ (c .if1 .taken)) _
+    left-dead-leaves (turn .before .loop .inv .1) (next turn) (c .before .look-single .ensures) (not-true _ (c .if1 .taken)) (c .before .look-single .last .0)
 
 add-i : tie.Need-add-i Inv-loop μ-loop
 add-i c = omega arith
@@ -49,16 +61,12 @@ loop-less c = omega arith
 loop-again : tie.Need-loop-again Inv-loop μ-loop
 loop-again c =
     let turn = c .before .before .before .before in
-    let a = turn .before .before .before .args in (
-      omega arith,
-      left-then _ _ (turn .before .loop .inv .1) (next-position _ (a .count) (turn .before .loop .i) (a .positions .now) (omega arith) (omega arith)) _
-          (c .before .look-single .ensures) (not-false _ (c .if1 .left)),
-    )
+    (omega arith, left-then (turn .before .loop .inv .1) (next turn) (c .before .look-single .ensures) (λ place k. clause-keeps place _ k) (not-false _ (c .if1 .left)))
 
 returns-2 : tie.Need-returns-2 Inv-loop μ-loop
 returns-2 c =
     let a = c .before .before .before .args in
-    left-none (c .before .loop .inv .1) (no-position _ (a .count) (c .before .loop .i) (a .positions .now) (omega arith))
+    record { by = left-none (c .before .loop .inv .1) (ap (eachInside (a .mask)) (front-end (a .count) (c .before .loop .i) (a .positions .now) (omega arith))) (λ _. false) true }
 
 pub look-inside-spec : {M : Type 1} → statement M
 look-inside-spec =

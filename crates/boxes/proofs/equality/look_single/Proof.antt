@@ -21,7 +21,7 @@ common-requires c κs = search needs
 returns : tie.Need-returns
 returns c =
     let a = c .before .before .before .before .args in
-    look-single-dead (a .mask) (a .position) (a .v) (a .rooms .now) (omega arith) (omega arith) (sym (c .before .before .common .ensures .result) ∙ c .if1 .taken) _
+    look-single-dead (a .mask) (a .position) (a .v) (a .rooms .now) (omega arith) (omega arith) (sym (c .before .before .common .ensures .result) ∙ c .if1 .taken) (a .rooms .now)
 
 mul-rooms : tie.Need-mul-rooms
 mul-rooms c = search needs
@@ -32,8 +32,8 @@ element-write-rooms c = search needs
 returns-2 : tie.Need-returns-2
 returns-2 c =
     let a = c .before .before .before .before .args in
-    let shared = c .before .before .common .ensures .result in
-    rw shared (look-single-cut (a .mask) (a .position) (a .v) (a .rooms .now) (omega arith) (omega arith) (λ e. c .if1 .left (shared ∙ e)))
+    let shared = c .before .before .common in
+    look-single-cut (a .mask) (a .position) (a .v) (a .rooms .now) (omega arith) (omega arith) (shared .result .mask) (shared .ensures .result) (c .if1 .left)
 
 pub look-single-spec : {M : Type 1} → statement M
 look-single-spec =

@@ -1,56 +1,46 @@
 -- `boxes::equality::look_values` meets its contract. The loop: the clauses of the values of `left` are left to look at; the measure is how many those are. Assumes nothing.
-use mathlib.Core.Path.{_≡_, refl, sym, ap, _∙_, subst}
-use mathlib.Core.List.{[], _∷_, map}
+use mathlib.Core.Path.{refl, sym, ap, _∙_, subst}
+use mathlib.Core.Bool.{true, false}
+use mathlib.Core.List.{map}
 use Prim.Native.Nat.{ℕ, _^_, _<_}
 use native.Mathlib.Omega.{arith}
-use lib.ListN.{take, drop}
+use lib.ListN.{take}
 use borrow.Author.Tests.{not-true, not-false}
-use Rattle.sets.specs.Sets.{single, values, smallest, others}
+use Rattle.sets.specs.Sets.{single, smallest, others}
 use Rattle.sets.proofs.Smallest.{others-below, count-others}
-use Rattle.rules.specs.Clauses.{atomIn}
-use Rattle.steps.specs.Shrinking.{lookClauses}
-use Rattle.boxes.specs.Looks.{Looked}
-use Rattle.boxes.proofs.LooksInTurn.{LeftToLook, left-all, left-dead, left-then, left-none}
-use Rattle.sets.proofs.Smallest.{others-computed}
+use Rattle.steps.specs.Shrinking.{lookPart, lookParts}
+use Rattle.rules.specs.Parts.{oneOf, atomIn, eachTaken}
+use Rattle.clauses.specs.Looks.{Leaves}
 use Rattle.boxes.proofs.EqualityLooks.{next-value, no-value}
+use Rattle.boxes.proofs.LooksInTurn.{LeftToLook, left-all, left-none, left-dead-leaves, left-then, clause-keeps}
 use Rattle.boxes.proofs.equality.look_values.Statement.{statement}
 use Rattle.boxes.proofs.equality.look_values.Tie as tie
 
 abbrev Inv-loop : tie.InvT-loop
 Inv-loop rooms₀ positions count mask v left₀ rooms left =
-    (left < 2 ^ 32)
-    × LeftToLook (map (λ x. map (atomIn (single x)) (take count positions)) (values mask)) (map (λ x. map (atomIn (single x)) (take count positions)) (values left)) v rooms₀ rooms
+    (left < 2 ^ 32) × LeftToLook lookPart lookParts (eachTaken mask (take count positions)) (eachTaken left (take count positions)) v rooms₀ rooms
 
 abbrev μ-loop : tie.MeasureT-loop
 μ-loop rooms₀ positions count mask v left₀ rooms left = Rattle.sets.specs.Sets.count left
-
--- the set of a turn is that of the smallest value that is left
-one : (c : tie.After-single Inv-loop μ-loop) → c .single .result .mask ≡ single (smallest (c .before .before .before .loop .left))
-one c = c .single .ensures .result ∙ ap single (c .before .smallest .ensures .result)
 
 -- the loop's head of a turn
 abbrev head : tie.After-look-any Inv-loop μ-loop → tie.At-loop Inv-loop μ-loop
 head c = c .before .before .before .before .before
 
 -- a turn looks at the clause of the smallest value that is left
-looked-at : (c : tie.After-look-any Inv-loop μ-loop) (place : ℕ)
-    → Looked
-    (lookClauses place (map (atomIn (single (smallest (head c .loop .left)))) (take (head c .before .before .args .count) (head c .before .before .args .positions .now)) ∷ [])
-    (take (head c .before .before .args .v) (head c .loop .rooms)))
-    (c .look-any .result) (c .look-any .last .0) (drop (head c .before .before .args .v) (head c .loop .rooms))
-looked-at c place =
+looked-at : (c : tie.After-look-any Inv-loop μ-loop)
+    → Leaves lookPart (oneOf (map (atomIn (single (smallest (head c .loop .left)))) (take (head c .before .before .args .count) (head c .before .before .args .positions .now))))
+    (head c .before .before .args .v) (head c .loop .rooms) (c .look-any .result) (c .look-any .last .0)
+looked-at c =
     let a = head c .before .before .args in
     subst
-    (λ (m : ℕ). Looked (lookClauses place (map (atomIn m) (take (a .count) (a .positions .now)) ∷ []) (take (a .v) (head c .loop .rooms))) (c .look-any .result) (c .look-any .last .0) (drop (a .v) (head c .loop .rooms)))
-    (one (c .before .before)) (c .look-any .ensures place)
-
--- what is left after a turn are the other values
-rest : (c : tie.After-common Inv-loop μ-loop) → c .common .result .mask ≡ others (head (c .before .before .before) .loop .left)
-rest c =
-    others-computed _ _ _ _ (one (c .before .before .before .before .before)) (c .before .complement .ensures .result) (c .common .ensures .result)
+    (λ (m : ℕ). Leaves lookPart (oneOf (map (atomIn m) (take (a .count) (a .positions .now)))) (a .v) (head c .loop .rooms) (c .look-any .result) (c .look-any .last .0))
+    (c .before .before .single .ensures .result ∙ ap single (c .before .before .before .smallest .ensures .result)) (c .look-any .ensures)
 
 loop-holds : tie.Need-loop-holds Inv-loop μ-loop
-loop-holds c = (c .before .fits .mask .fits, left-all _ _ _)
+loop-holds c =
+    let a = c .before .args in
+    (c .before .fits .mask .fits, left-all (λ place box. refl) (a .v) (a .rooms .now))
 
 smallest-requires : tie.Need-smallest-requires Inv-loop μ-loop
 smallest-requires c κs = tt
@@ -63,35 +53,31 @@ look-any-requires c κs = c .before .before .before .before .before .before .pre
 
 returns : tie.Need-returns Inv-loop μ-loop
 returns c =
-    let turn = c .before .before .before .before .before in
-    let left = turn .before .loop .left in
-    left-dead _ _ (turn .before .loop .inv .1) (next-value _ left (others left) (turn .before .loop .inv .0) (turn .loop-test .taken) refl) _ (looked-at (c .before))
-    (not-true _ (c .if1 .taken)) _
+    let here = head (c .before) in
+    let left = here .loop .left in
+    left-dead-leaves (here .loop .inv .1) (next-value _ left (others left) (here .loop .inv .0) (c .before .before .before .before .before .loop-test .taken) refl) (looked-at (c .before))
+    (not-true _ (c .if1 .taken)) (c .before .look-any .last .0)
 
-complement-requires : tie.Need-complement-requires Inv-loop μ-loop
-complement-requires c κs = tt
-
-common-requires : tie.Need-common-requires Inv-loop μ-loop
-common-requires c κs = tt
+others-requires : tie.Need-others-requires Inv-loop μ-loop
+others-requires c κs = tt
 
 loop-less : tie.Need-loop-less Inv-loop μ-loop
 loop-less c =
-    let turn = c .before .before .before .before .before .before .before in
-    let left = turn .before .loop .left in
-    rw (rest c) (omega (arith, count-others left (turn .before .loop .inv .0) (turn .loop-test .taken)))
+    let turn = c .before .before .before .before .before .before in
+    omega (arith, ap Rattle.sets.specs.Sets.count (c .others .ensures .result), count-others (turn .before .loop .left) (turn .before .loop .inv .0) (turn .loop-test .taken))
 
 loop-again : tie.Need-loop-again Inv-loop μ-loop
 loop-again c =
-    let turn = c .before .before .before .before .before .before .before in
+    let turn = c .before .before .before .before .before .before in
     let left = turn .before .loop .left in
     let mask = turn .before .loop .inv .0 in (
-      subst (λ (m : ℕ). m < 2 ^ 32) (sym (rest c)) (others-below left mask),
-      left-then _ _ (turn .before .loop .inv .1) (next-value _ left _ mask (turn .loop-test .taken) (rest c)) _ (looked-at (c .before .before .before))
-          (not-false _ (c .before .before .if1 .left)),
+      subst (λ (m : ℕ). m < 2 ^ 32) (sym (c .others .ensures .result)) (others-below left mask),
+      left-then (turn .before .loop .inv .1) (next-value _ left _ mask (turn .loop-test .taken) (c .others .ensures .result)) (looked-at (c .before .before)) (λ place k. clause-keeps place _ k)
+          (not-false _ (c .before .if1 .left)),
     )
 
 returns-2 : tie.Need-returns-2 Inv-loop μ-loop
-returns-2 c = left-none (c .before .loop .inv .1) (no-value _ (c .before .loop .left) (c .loop-test .left))
+returns-2 c = record { by = left-none (c .before .loop .inv .1) (no-value _ (c .before .loop .left) (c .loop-test .left)) (λ _. false) true }
 
 pub look-values-spec : {M : Type 1} → statement M
 look-values-spec =
@@ -104,8 +90,7 @@ look-values-spec =
     single-requires
     look-any-requires
     returns
-    complement-requires
-    common-requires
+    others-requires
     loop-less
     loop-again
     returns-2)

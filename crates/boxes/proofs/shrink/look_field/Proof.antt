@@ -1,35 +1,32 @@
 -- `boxes::shrink::look_field` meets its contract: by the field's kind, which is no header and not unknown. Assumes nothing.
-use Prim.Native.Nat.{_+_, _≤_}
+use mathlib.Core.Path.{sym, _∙_}
+use Prim.Native.Nat.{_+_}
 use native.Mathlib.Omega.{arith}
-use lib.ListN.{length, drop}
-use borrow.Author.Needs.{needs}
-use Rattle.rules.specs.declared.field.Tag.the-variants.{Equality}
-use Rattle.rules.specs.Reading.{headOf}
-use Rattle.rules.proofs.InputLaws.{field-there}
+use Rattle.rules.specs.declared.field.Tag.the-variants.{Header, Clause, Equality, Unknown}
+use Rattle.rules.proofs.Reading.WalkLaws.{partFrom, FieldHere, walk-head, walk-field}
 use Rattle.boxes.proofs.FieldLooks.{look-there, look-clause-there}
-use Rattle.rules.proofs.HeadedFields.{Headed, content-there, no-header-there, no-unknown-there, clause-there, equality-there}
+use borrow.Author.Needs.{needs}
 use Rattle.boxes.proofs.shrink.look_field.Statement.{statement}
 use Rattle.boxes.proofs.shrink.look_field.Tie as tie
 
--- the field lies within the bytes
-within : (c : tie.Start) → c .args .at + 3 + headOf (drop (c .args .at) (c .args .input .now)) .length ≤ length (c .args .input .now)
-within c = let a = c .args in field-there (a .v) (c .pre .2 .0) (a .at) (a .input .now) (c .pre .0) (c .pre .2 .1)
-
--- the head that was read is its head
-headed : (c : tie.After-head-at) → Headed (c .before .before .args .v) (c .before .before .args .at) (c .before .before .args .input .now) (c .head-at .result)
-headed c = let pre = c .before .before .pre in record { n = pre .2 .0; there = pre .0; none = pre .2 .1; known = c .head-at .ensures }
+-- the field whose head and kind were read
+here : (c : tie.After-tag-of) → let start = c .before .before .before in FieldHere (start .args .input .now) (start .args .v) (start .args .at) (start .pre .1 .0) (c .before .head-at .result) (partFrom (start .args .at + 3) (start .args .input .now))
+here c = let pre = c .before .before .before .pre in walk-field (pre .1 .1) (pre .0) (c .before .head-at .ensures)
 
 head-at-requires : tie.Need-head-at-requires
-head-at-requires c κs = omega (arith, within (c .before))
+head-at-requires c κs = walk-head (c .before .pre .1 .1) (c .before .pre .0)
+
+tag-of-requires : tie.Need-tag-of-requires
+tag-of-requires c κs = search needs
 
 add-from : tie.Need-add-from
 add-from c = search needs
 
 sub-content : tie.Need-sub-content
-sub-content c = omega (arith, within (c .before .before))
+sub-content c = omega (arith, here c .ends)
 
 part-content-start : tie.Need-part-content-start
-part-content-start c = omega (arith, within (c .before .before))
+part-content-start c = omega (arith, here c .ends)
 
 part-content-end : tie.Need-part-content-end
 part-content-end c = search needs
@@ -41,45 +38,38 @@ enum-told-2 : tie.Need-enum-told-2
 enum-told-2 c = search needs
 
 look-atoms-requires : tie.Need-look-atoms-requires
-look-atoms-requires c κs =
-    let here = c .before .before .before .before in
-    clause-there (headed here) (here .before .before .pre .1) (c .before .enum-told2 .given .1)
+look-atoms-requires c κs = let read = c .before .before .before .before in here read .fits Clause (sym (read .tag-of .ensures) ∙ c .before .enum-told2 .given .1)
 
 enum-told-3 : tie.Need-enum-told-3
 enum-told-3 c = search needs
 
 look-equality-requires : tie.Need-look-equality-requires
 look-equality-requires c κs =
-    let here = c .before .before .before .before in
-    let there = equality-there (headed here) (c .before .enum-told3 .given .1) in
-    (there .0, content-there (headed here), here .before .before .pre .1, there .1)
+    let read = c .before .before .before .before in
+    let fits = here read .fits Equality (sym (read .tag-of .ensures) ∙ c .before .enum-told3 .given .1) in
+    (fits .0, here read .there, fits .1)
 
 enum-told-4 : tie.Need-enum-told-4
 enum-told-4 c = search needs
 
 returns : tie.Need-returns
-returns c = absurd (no-header-there (headed (c .before .before .before)) (c .enum-told .given .1))
+returns c = let read = c .before .before .before in absurd (here read .fits Header (sym (read .tag-of .ensures) ∙ c .enum-told .given .1))
 
 returns-2 : tie.Need-returns-2
-returns-2 c place =
-    let here = c .before .before .before .before .before in
-    look-clause-there (headed here) (here .before .before .args .rooms .now) (c .look-atoms .last .0) (c .look-atoms .result) place
-    (c .before .before .enum-told2 .given .1) (c .look-atoms .ensures place)
+returns-2 c = let read = c .before .before .before .before .before in look-clause-there (here read) (sym (read .tag-of .ensures) ∙ c .before .before .enum-told2 .given .1) (c .look-atoms .ensures .leaves)
 
 returns-3 : tie.Need-returns-3
-returns-3 c place =
-    let here = c .before .before .before .before .before in
-    look-there (headed here) (here .before .before .args .rooms .now) (c .look-equality .last .0) (c .look-equality .result) place
-    Equality (c .before .before .enum-told3 .given .1) (c .look-equality .ensures place)
+returns-3 c = let read = c .before .before .before .before .before in look-there (here read) Equality (sym (read .tag-of .ensures) ∙ c .before .before .enum-told3 .given .1) (c .look-equality .ensures)
 
 returns-4 : tie.Need-returns-4
-returns-4 c = absurd (no-unknown-there (headed (c .before .before .before)) (c .enum-told4 .given .1))
+returns-4 c = let read = c .before .before .before in absurd (here read .fits Unknown (sym (read .tag-of .ensures) ∙ c .enum-told4 .given .1))
 
 pub look-field-spec : {M : Type 1} → statement M
 look-field-spec =
     tie.close
     (tie.spec
     head-at-requires
+    tag-of-requires
     add-from
     sub-content
     part-content-start

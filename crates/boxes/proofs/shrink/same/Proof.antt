@@ -4,7 +4,7 @@ use Prim.Native.Nat.{_-_, _≤_}
 use native.Mathlib.Omega.{arith}
 use lib.ListN.{take, drop}
 use Rattle.steps.specs.Shrinking.{sameRooms}
-use Rattle.boxes.proofs.RoomLists.{same-not, same-on, same-end}
+use Rattle.boxes.proofs.SameRooms.{same-not, same-on, same-end}
 use Rattle.boxes.proofs.shrink.same.Statement.{statement}
 use Rattle.boxes.proofs.shrink.same.Tie as tie
 

@@ -1,20 +1,16 @@
 -- `boxes::shrink::shrink` meets its contract. The loop: shrinking the rooms as they are makes the whole; the measure is the number of open values. Assumes nothing.
-use mathlib.Core.Path.{_≡_, refl, sym, _∙_, subst}
-use lib.ListN.{take, drop}
+use mathlib.Core.Path.{refl, sym, _∙_}
+use lib.ListN.{take}
 use borrow.Author.Needs.{needs}
 use Rattle.steps.specs.Boxes.{openValues}
 use Rattle.steps.specs.Shrinking.{round}
-use Rattle.boxes.specs.declared.shrink.Verdict.{Verdict}
-use Rattle.boxes.specs.declared.shrink.Verdict.the-variants.{Alive, Dead}
-use Rattle.boxes.specs.Rooms.{Rounded}
-use Rattle.rules.specs.Sound.{fieldsIn}
-use Rattle.rules.proofs.InputLaws.{sound-limits}
+use Rattle.rules.proofs.Reading.WalkLaws.{sound-limits}
 use Rattle.boxes.proofs.ShrinkRounds.{Cutting, cutting-dead, cutting-done, cutting-falls, cutting-on}
 use Rattle.boxes.proofs.shrink.shrink.Statement.{statement}
 use Rattle.boxes.proofs.shrink.shrink.Tie as tie
 
 abbrev Inv-loop : tie.InvT-loop
-Inv-loop input v next₀ next = Cutting (fieldsIn input) v next₀ next
+Inv-loop input v next₀ next = Cutting input v next₀ next
 
 abbrev μ-loop : tie.MeasureT-loop
 μ-loop input v next₀ next = openValues (take v next)
@@ -28,20 +24,11 @@ look-round-requires c κs = c .before .before .before .pre .0
 enum-known-verdict : tie.Need-enum-known-verdict Inv-loop μ-loop
 enum-known-verdict c = search needs
 
--- what the round left, by its verdict
-rounded : (c : tie.After-look-round Inv-loop μ-loop) (r : Verdict) → c .look-round .result ≡ r
-    → Rounded (round (fieldsIn (c .before .before .before .before .args .input .now)) (take (c .before .before .before .before .args .v) (c .before .before .loop .next))) r (c .look-round .last .1 .1 .0) (drop (c .before .before .before .before .args .v) (c .before .before .loop .next))
-rounded c r e =
-    let here = c .before .before in
-    let a = here .before .before .args in
-    subst (λ (w : Verdict). Rounded (round (fieldsIn (a .input .now)) (take (a .v) (here .loop .next))) w (c .look-round .last .1 .1 .0) (drop (a .v) (here .loop .next))) e
-    (c .look-round .ensures)
-
 returns : tie.Need-returns Inv-loop μ-loop
 returns c =
     let here = c .before .before .before in
     let found = c .before .verdict .given in
-    cutting-dead (here .before .before .loop .inv) (here .look-round .last .1 .1 .0) (found .0 .0) (rounded here (Dead (found .0 .0)) (found .1))
+    cutting-dead (here .before .before .loop .inv) (here .look-round .ensures) (found .0 .0) (found .1)
 
 enum-told : tie.Need-enum-told Inv-loop μ-loop
 enum-told c = search needs
@@ -55,19 +42,19 @@ returns-2 : tie.Need-returns-2 Inv-loop μ-loop
 returns-2 c =
     let told = c .before .before .before .before in
     let here = told .before .before in
-    cutting-done (here .before .before .loop .inv) (here .look-round .last .1 .1 .0) (rounded here Alive (told .enum-told .given .1)) (sym (c .before .same .ensures) ∙ c .if1 .taken)
+    cutting-done (here .before .before .loop .inv) (here .look-round .ensures) (told .enum-told .given .1) (sym (c .before .same .ensures) ∙ c .if1 .taken)
 
 loop-less : tie.Need-loop-less Inv-loop μ-loop
 loop-less c =
     let told = c .before .before .before .before in
     let here = told .before .before in
-    cutting-falls (here .before .before .loop .inv) (here .look-round .last .1 .1 .0) (rounded here Alive (told .enum-told .given .1)) (sym (c .before .same .ensures) ∙ c .if1 .left)
+    cutting-falls (here .before .before .loop .inv) (here .look-round .ensures) (told .enum-told .given .1) (sym (c .before .same .ensures) ∙ c .if1 .left)
 
 loop-again : tie.Need-loop-again Inv-loop μ-loop
 loop-again c =
     let told = c .before .before .before .before in
     let here = told .before .before in
-    cutting-on (here .before .before .loop .inv) (here .look-round .last .1 .1 .0) (rounded here Alive (told .enum-told .given .1)) (sym (c .before .same .ensures) ∙ c .if1 .left)
+    cutting-on (here .before .before .loop .inv) (here .look-round .ensures) (told .enum-told .given .1) (sym (c .before .same .ensures) ∙ c .if1 .left)
 
 pub shrink-spec : {M : Type 1} → statement M
 shrink-spec =

@@ -2,22 +2,11 @@
 use mathlib.Core.Path.{_∙_, ap}
 use Prim.Native.Nat.{ℕ}
 use lib.ListN.{take}
-use Rattle.lines.specs.Text.{textOf, lineOf}
+use Rattle.texts.specs.Grown.{lineOf}
+use Rattle.lines.specs.Text.{textOf}
 use borrow.Author.Needs.{needs}
 use Rattle.lines.proofs.answer.answer.Statement.{statement}
 use Rattle.lines.proofs.answer.answer.Tie as tie
-
-slice-aggregate-plan : tie.Need-slice-aggregate-plan
-slice-aggregate-plan c = search needs
-
-plan-requires : tie.Need-plan-requires
-plan-requires c κs = search needs
-
-positions-requires : tie.Need-positions-requires
-positions-requires c κs = search needs
-
-text-requires : tie.Need-text-requires
-text-requires c κs = search needs
 
 returns : tie.Need-returns
 returns c =
@@ -33,4 +22,9 @@ returns c =
 pub answer-spec : {M : Type 1} → statement M
 answer-spec =
     tie.close
-    (tie.spec slice-aggregate-plan plan-requires positions-requires text-requires returns)
+    (tie.spec
+    (λ c. search needs)
+    (λ c κs. search needs)
+    (λ c κs. search needs)
+    (λ c κs. search needs)
+    returns)

@@ -1,22 +1,10 @@
 -- `lines::answer::positions` meets its contract: a check tells the number of positions. Assumes nothing.
 use mathlib.Core.Path.{sym, _∙_}
 use Rattle.rules.specs.Reading.{reading}
-use Rattle.lines.proofs.WordLaws.{positions-sound, positions-refused}
+use Rattle.lines.proofs.PositionLaws.{positions-sound, positions-refused}
 use borrow.Author.Needs.{needs}
 use Rattle.lines.proofs.answer.positions.Statement.{statement}
 use Rattle.lines.proofs.answer.positions.Tie as tie
-
-check-requires : tie.Need-check-requires
-check-requires c κs = search needs
-
-enum-known-checked : tie.Need-enum-known-checked
-enum-known-checked c = search needs
-
-cast-result : tie.Need-cast-result
-cast-result c = search needs
-
-enum-told : tie.Need-enum-told
-enum-told c = search needs
 
 returns : tie.Need-returns
 returns c =
@@ -30,4 +18,11 @@ returns-2 c =
 
 pub positions-spec : {M : Type 1} → statement M
 positions-spec =
-    tie.close (tie.spec check-requires enum-known-checked cast-result enum-told returns returns-2)
+    tie.close
+    (tie.spec
+    (λ c κs. search needs)
+    (λ c. search needs)
+    (λ c. search needs)
+    (λ c. search needs)
+    returns
+    returns-2)

@@ -2,7 +2,7 @@
 use mathlib.Core.Path.{sym, _∙_}
 use native.Mathlib.Omega.{arith}
 use lib.ListN.{getD}
-use Rattle.rules.proofs.ByteLaws.{atom-drop}
+use Rattle.rules.proofs.Reading.ByteLaws.{atom-drop}
 use borrow.Author.Needs.{needs}
 use Rattle.rules.proofs.field.atom_at.Statement.{statement}
 use Rattle.rules.proofs.field.atom_at.Tie as tie

@@ -1,7 +1,7 @@
 -- `rules::field::tag_of` meets its contract: arm by arm. Assumes nothing.
 use mathlib.Core.Path.{sym, ap}
 use Rattle.rules.specs.Reading.{tagOf}
-use Rattle.rules.proofs.ByteLaws.{tag-unknown}
+use Rattle.rules.proofs.Reading.ByteLaws.{tag-unknown}
 use Rattle.rules.proofs.field.tag_of.Statement.{statement}
 use Rattle.rules.proofs.field.tag_of.Tie as tie
 

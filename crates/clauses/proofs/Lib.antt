@@ -1,0 +1,7 @@
+pub mod AtomsInTurn
+pub mod FrontRooms
+pub mod PositionsInTurn
+pub mod ScanLaws
+pub mod SettledClauses
+pub mod Unique
+pub mod UnitedLaws

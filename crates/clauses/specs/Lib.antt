@@ -1,0 +1,3 @@
+pub mod Looks
+pub mod Scans
+pub mod Promise

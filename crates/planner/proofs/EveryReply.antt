@@ -1,0 +1,61 @@
+-- What holds of every reply that the promise allows: its numbers are small (`reply-limits`), it is no stall (`reply-not-stalled`), NONE has one dead end more than splits (`none-counted`). Assumes nothing.
+use mathlib.Core.Path.{_≡_, sym, subst}
+use mathlib.Core.List.{List}
+use Prim.Native.Nat.{ℕ, _+_, _≤_}
+use native.Mathlib.Omega.{arith}
+use lib.ListN.{length}
+use Rattle.rules.specs.Writing.{fieldsOf}
+use Rattle.rules.specs.Reading.{Reading, sound, refused, reading}
+use Rattle.rules.proofs.Reading.RefusalLaws.{refused-number, refused-place}
+use Rattle.steps.specs.Reply as steps
+use Rattle.steps.specs.Table.{startOf, planned, ofReading}
+use Rattle.steps.proofs.Search.Counts.{search-counts}
+use Rattle.searching.specs.declared.reply.Reply.{Reply}
+use Rattle.searching.specs.Answered.{told}
+use Rattle.planner.specs.Promise.{Planned}
+use Rattle.planner.proofs.ReplyLaws.{of-every-reply, start-filled}
+
+-- a place within the longest input, no more splits than may be allowed, and at most one dead end more; one more in NONE
+pub record Limited (r : Reply) : Type 0 where
+  pub place : r .place ≤ 32768
+  pub splits : r .splits ≤ 1000000
+  pub deadEnds : r .«dead_ends» ≤ 1000001
+  pub none : r .number ≡ 1 → r .«dead_ends» ≡ r .splits + 1
+
+-- the reply to what was read
+read-limited : (input : List ℕ) (allowed : ℕ) (found : Reading) → reading input ≡ found → length input ≤ 32768 → allowed ≤ 1000000 → Limited (told (ofReading found allowed))
+unfolding ofReading planned
+read-limited input allowed (sound file) read short modest =
+    let counts = search-counts (fieldsOf file) (startOf file) (start-filled input file read) allowed 0 0 (omega arith) in
+    record {
+      place = omega (arith, counts .place);
+      splits = omega (arith, counts .within);
+      deadEnds = omega (arith, counts .within, counts .fewer);
+      none = λ e. omega (arith, counts .none e);
+    }
+read-limited input allowed (refused number place) read short modest =
+    record {
+      place = omega (arith, refused-place input number place read);
+      splits = omega arith;
+      deadEnds = omega arith;
+      none = λ e. absurd (omega (arith, refused-number input number place read));
+    }
+
+module _ (input before after : List ℕ) (allowed : ℕ) (r : Reply) (promised : Planned input before after allowed r) where
+  -- whatever the call, the reply's numbers are small
+  pub reply-limits : Limited r
+  reply-limits =
+      subst Limited (sym (promised .answered .reply))
+      (of-every-reply input (length before) allowed (λ g. Limited (told g))
+      (λ number low high. record { place = omega arith; splits = omega arith; deadEnds = omega arith; none = λ e. absurd (omega arith) })
+      (λ found read short roomy modest. read-limited input allowed found read short modest))
+
+  -- NONE has one dead end more than splits, whatever the call
+  pub none-counted : r .number ≡ 1 → r .«dead_ends» ≡ r .splits + 1
+  none-counted = reply-limits .none
+
+  -- and the reply is no stall: an accepted call has a number of at most 2, and any other one of at most 20
+  pub reply-not-stalled : r .number ≡ 21 → ⊥
+  reply-not-stalled e =
+      let refused-so = promised .refused (λ file accepted. let low = promised .decided file accepted in omega arith) in
+      omega arith

@@ -1,0 +1,5 @@
+pub mod ReasonTold
+pub mod RowLaws
+pub mod Unique
+pub mod WordExamples
+pub mod WordLaws

@@ -1,0 +1,61 @@
+-- Laws of the content of a field without a fault: what is known of its length and of itself by its kind, `content-fits`, its atoms in turn, `atoms-on`, and its positions, `positions-on`. Assumes nothing.
+use mathlib.Core.Path.{_≡_, ap, _∙_}
+use mathlib.Core.List.{List, _∷_}
+use Prim.Native.Nat.{ℕ, suc, _+_, _-_, _*_, _/_, _%_, _≤_, _<_}
+use native.Mathlib.Numerals.{add-one}
+use native.Mathlib.Omega.{arith}
+use lib.Dec.{T, leb}
+use lib.ListN.{length, getD, take, drop, length-drop}
+use lib.Seq.{drop-cons, drop-drop}
+use Rattle.rules.specs.declared.field.Atom.{Atom}
+use Rattle.rules.specs.declared.field.Tag.{Tag}
+use Rattle.rules.specs.declared.field.Tag.the-variants.{Header, Clause, Equality, Unknown}
+use Rattle.rules.specs.Reading.{atomOf, atomsOf, setAt, ruleOf, lengthFits, tagFault, setFault, ruleFault}
+use Rattle.rules.specs.Writing.{PositionFits, SetFits}
+use Rattle.rules.specs.Contents.{ContentFits}
+use Rattle.lists.proofs.ListLaws.{every-map}
+use Rattle.lists.proofs.TestLaws.{both-hold, le-holds, eq-holds}
+use Rattle.rules.proofs.Reading.FaultlessLaws.{or-else-none, atoms-fault-none, positions-fault-none}
+
+-- a clause's length is 5 for each atom
+pub clause-length : (len : ℕ) → T (lengthFits Clause len) → len / 5 * 5 ≡ len
+unfolding lengthFits
+clause-length len t = omega (arith, eq-holds (len % 5) 0 .0 t)
+
+-- an equality's length is 4 at least
+pub equality-length : (len : ℕ) → T (lengthFits Equality len) → 4 ≤ len
+unfolding lengthFits
+equality-length len t = le-holds 4 len .0 (both-hold (leb 4 len) (leb len 68) .0 t .0)
+
+-- what the tests of a content say, by its kind
+pub content-fits : (v n : ℕ) (kind : Tag) (len : ℕ) (content : List ℕ) → v ≤ 64 → tagFault kind ≡ 0 → T (lengthFits kind len)
+    → len ≤ length content → ruleFault v n (ruleOf kind len content) ≡ 0 → ContentFits kind v len content
+unfolding tagFault ruleOf ruleFault
+content-fits v n Header len content few f t there none = absurd (omega arith)
+content-fits v n Clause len content few f t there none =
+    let atoms = atomsOf (len / 5) content in
+    record {
+      whole = clause-length len t;
+      there = there;
+      few = few;
+      fit = every-map (λ (a : Atom). PositionFits v (a .position) × SetFits n (a .set)) (λ (a : Atom). PositionFits v (a .position)) atoms (λ a h. h .0) (atoms-fault-none v n atoms .0 none);
+    }
+content-fits v n Equality len content few f t there none =
+    let long = equality-length len t in
+    let fit = positions-fault-none v _ .0 (or-else-none (setFault n (setAt content 0)) _ .0 none .1) in
+    (long, record { there = omega (arith, length-drop 4 content); few = few; fit = fit })
+content-fits v n Unknown len content few f t there none = absurd (omega arith)
+
+-- the first of some atoms, and the others
+pub atoms-on : (left at : ℕ) (bytes : List ℕ) → 0 < left → atomsOf left (drop at bytes) ≡ atomOf (drop at bytes) ∷ atomsOf (left - 1) (drop (at + 5) bytes)
+unfolding atomsOf
+atoms-on left at bytes h = ap (λ (k : ℕ). atomsOf k (drop at bytes)) one-more ∙ ap (λ (rest : List ℕ). atomOf (drop at bytes) ∷ atomsOf (left - 1) rest) (drop-drop 5 at bytes)
+  where
+    one-more : left ≡ suc (left - 1)
+    one-more = omega arith
+
+-- the first of the positions from an index on, and the others
+pub positions-on : (count i : ℕ) (ps : List ℕ) → i < count → count ≤ length ps → take (count - i) (drop i ps) ≡ getD ps i 0 ∷ take (count - (i + 1)) (drop (i + 1) ps)
+positions-on count i ps there fits =
+    let one-more : count - i ≡ suc (count - (i + 1)) = omega arith in
+    rw (one-more, add-one, drop-cons ps i 0 (omega arith))

@@ -1,0 +1,124 @@
+-- The numbers and places of refusals: reading refuses with 13 to 20 alone, `refused-number`, at a place within the input, `refused-place`; else v and n are the header's, `read-limits`. Assumes nothing.
+use mathlib.Core.Path.{_≡_, refl, subst}
+use mathlib.Core.Bool.{Bool, true, false}
+use mathlib.Core.List.{List, [], _∷_}
+use mathlib.Core.Logic.{_⊎_, inl, inr}
+use Prim.Native.Nat.{ℕ, zero, suc, _+_, _≤_, _<_}
+use native.Mathlib.Omega.{arith}
+use lib.Dec.{lit≤}
+use lib.ListN.{length, getD, drop, length-drop}
+use Rattle.rules.specs.declared.field.Atom.{Atom}
+use Rattle.rules.specs.declared.field.Tag.{Tag}
+use Rattle.rules.specs.declared.field.Tag.the-variants.{Header, Clause, Equality, Unknown}
+use Rattle.rules.specs.Rules.{Rule, File, clause, equality}
+use Rattle.rules.specs.Reading.{faultIf, orElse, positionFault, setFault, atomFault, atomsFault, positionsFault, ruleFault, tagFault, bodyFault, fieldFault, headerBodyFault, headerFault}
+use Rattle.rules.specs.Reading.{Reading, sound, refused, refuseFor, withRule, ruleAt, sizeOf, readFields, reading}
+
+-- the numbers that reading refuses with
+abbrev Refusing : ℕ → Type 0
+Refusing number = (13 ≤ number) × (number ≤ 20)
+
+-- ---- faults: none, or one of these numbers
+
+abbrev Fault : ℕ → Type 0
+Fault number = (number ≡ 0) ⊎ Refusing number
+
+no-fault : Fault 0
+no-fault = inl refl
+
+fault-if-number : (b : Bool) (number : ℕ) (rest : Unit {0} → ℕ) → 13 ≤ number → number ≤ 20 → Fault (rest tt) → Fault (faultIf b number rest)
+fault-if-number true number rest low high f = inr (low, high)
+fault-if-number false number rest low high f = f
+
+or-else-number : (first later : ℕ) → Fault first → Fault later → Fault (orElse first later)
+or-else-number zero later f g = g
+or-else-number (suc first) later f g = f
+
+-- a chain of tests, each with such a number
+ruleset numbers = (no-fault, fault-if-number, or-else-number, lit≤)
+
+position-number : (v p : ℕ) → Fault (positionFault v p)
+unfolding positionFault
+position-number v p = search numbers
+
+set-number : (n m : ℕ) → Fault (setFault n m)
+unfolding setFault
+set-number n m = search numbers
+
+atoms-number : (v n : ℕ) (atoms : List Atom) → Fault (atomsFault v n atoms)
+unfolding atomsFault atomFault
+atoms-number v n [] = inl refl
+atoms-number v n (a ∷ more) =
+    or-else-number _ _ (or-else-number _ _ (position-number v (a .position)) (set-number n (a .set))) (atoms-number v n more)
+
+positions-number : (v : ℕ) (ps : List ℕ) → Fault (positionsFault v ps)
+unfolding positionsFault
+positions-number v [] = inl refl
+positions-number v (p ∷ ps) = or-else-number _ _ (position-number v p) (positions-number v ps)
+
+rule-number : (v n : ℕ) (rule : Rule) → Fault (ruleFault v n rule)
+unfolding ruleFault
+rule-number v n (clause atoms) = atoms-number v n atoms
+rule-number v n (equality m ps) = or-else-number _ _ (set-number n m) (positions-number v ps)
+
+tag-number : (kind : Tag) → Fault (tagFault kind)
+unfolding tagFault
+tag-number Header = inr (omega arith)
+tag-number Clause = no-fault
+tag-number Equality = no-fault
+tag-number Unknown = inr (omega arith)
+
+field-number : (v n : ℕ) (bytes : List ℕ) → Fault (fieldFault v n bytes)
+unfolding fieldFault bodyFault
+field-number v n bytes = search (numbers, tag-number, rule-number) depth 8
+
+header-number : (bytes : List ℕ) → Fault (headerFault bytes)
+unfolding headerFault headerBodyFault
+header-number bytes = search numbers depth 8
+
+-- ---- readings
+
+-- a file with these v and n, or a refusal with one of these numbers at a place up to the end
+abbrev Fine : ℕ → ℕ → ℕ → Reading → Type 0
+Fine v n end (sound file) = (file .v ≡ v) × (file .n ≡ n)
+Fine v n end (refused number place) = Refusing number × (place ≤ end)
+
+module _ (v n end : ℕ) where
+  refuse-for-fine : (fault place : ℕ) (rest : Unit {0} → Reading) → Fault fault → place ≤ end → Fine v n end (rest tt) → Fine v n end (refuseFor fault place rest)
+  refuse-for-fine zero place rest f h r = r
+  refuse-for-fine (suc number) place rest (inl e) h r = absurd (omega arith)
+  refuse-for-fine (suc number) place rest (inr g) h r = (g, h)
+
+  with-rule-fine : (rule : Rule) (found : Reading) → Fine v n end found → Fine v n end (withRule rule found)
+  with-rule-fine rule (sound file) r = r
+  with-rule-fine rule (refused number place) r = r
+
+  fields-fine : (k place : ℕ) (bytes : List ℕ) → (0 < length bytes → place + length bytes ≤ end) → Fine v n end (readFields k v n place bytes)
+  unfolding readFields
+  fields-fine zero place bytes h = (refl, refl)
+  fields-fine (suc k) place [] h = (refl, refl)
+  fields-fine (suc k) place (b ∷ bs) h =
+      let bytes : List ℕ = b ∷ bs in
+      let size : ℕ = sizeOf bytes in
+      let rest : List ℕ = drop size bytes in
+      let there : place + length bytes ≤ end = h (omega arith) in
+      let later = fields-fine k (place + size) rest (λ l. omega (arith, length-drop size bytes)) in
+      refuse-for-fine (fieldFault v n bytes) place _ (field-number v n bytes) (omega arith) (with-rule-fine (ruleAt bytes) (readFields k v n (place + size) rest) later)
+
+reading-fine : (s : List ℕ) → Fine (getD s 3 0) (getD s 4 0) (length s) (reading s)
+unfolding reading
+reading-fine s =
+    let fields = fields-fine (getD s 3 0) (getD s 4 0) (length s) (length s) 5 (drop 5 s) (λ l. omega (arith, length-drop 5 s)) in
+    refuse-for-fine (getD s 3 0) (getD s 4 0) (length s) (headerFault s) 0 _ (header-number s) (omega arith) fields
+
+-- reading refuses with the numbers 13 to 20 alone
+pub refused-number : (s : List ℕ) (number place : ℕ) → reading s ≡ refused number place → (13 ≤ number) × (number ≤ 20)
+refused-number s number place e = subst (Fine (getD s 3 0) (getD s 4 0) (length s)) e (reading-fine s) .0
+
+-- the place of a refusal lies within the input
+pub refused-place : (s : List ℕ) (number place : ℕ) → reading s ≡ refused number place → place ≤ length s
+refused-place s number place e = subst (Fine (getD s 3 0) (getD s 4 0) (length s)) e (reading-fine s) .1
+
+-- v and n of a file that was read are those of its header
+pub read-limits : (s : List ℕ) (file : File) → reading s ≡ sound file → (file .v ≡ getD s 3 0) × (file .n ≡ getD s 4 0)
+read-limits s file e = subst (Fine (getD s 3 0) (getD s 4 0) (length s)) e (reading-fine s)

@@ -1,0 +1,5 @@
+pub mod Examples
+pub mod FrameLaws
+pub mod PlaceLaws
+pub mod RoundTrip
+pub mod WrittenLaws

@@ -1,0 +1,43 @@
+-- An example of a rule file: its bytes are read as the file, and the file is written as the bytes. Assumes nothing.
+use mathlib.Core.Path.{_≡_, refl}
+use mathlib.Core.List.{List, [], _∷_, _++_, map}
+use Prim.Native.Nat.{ℕ}
+use Rattle.sets.specs.Sets.{inRange, onlyIf, full, common, inside}
+use Rattle.rules.specs.Rules.{File, Field, clause, equality}
+use Rattle.rules.specs.Reading.{tagOf, lengthAt, setAt, atomOf, headOf, contentOf, atomsOf, ruleOf, lengthFits, tagFault, bodyFault, headerBodyFault, positionFault, setFault, atomFault, atomsFault, positionsFault, ruleFault, ruleAt, fieldFault, limitsFit, headerFault, sound, sizeOf, readFields, reading}
+use Rattle.rules.specs.Writing.{twoBytes, fourBytes, writtenAtoms, framed, tagByte, contentBytes, writtenRule, writtenRules, written, placed, fieldsOf}
+
+-- v 2 and n 2; "1 in {} or 1 in {1, 2} or 2 in {2}"; "the values of positions 1 and 1 are {1, 2}"; an empty clause
+pub exampleBytes : List ℕ
+exampleBytes =
+    (1 ∷ 0 ∷ 2 ∷ 2 ∷ 2 ∷ [])
+    ++ (2 ∷ 0 ∷ 15 ∷ 1 ∷ 0 ∷ 0 ∷ 0 ∷ 0 ∷ 1 ∷ 0 ∷ 0 ∷ 0 ∷ 3 ∷ 2 ∷ 0 ∷ 0 ∷ 0 ∷ 2 ∷ [])
+    ++ (3 ∷ 0 ∷ 6 ∷ 0 ∷ 0 ∷ 0 ∷ 3 ∷ 1 ∷ 1 ∷ [])
+    ++ (2 ∷ 0 ∷ 0 ∷ [])
+
+-- the file that they are: three rules
+pub exampleFile : File
+exampleFile = record {
+  v = 2;
+  n = 2;
+  rules =
+      clause (record { position = 1; set = 0 } ∷ record { position = 1; set = 3 } ∷ record { position = 2; set = 2 } ∷ [])
+      ∷ equality 3 (1 ∷ 1 ∷ [])
+      ∷ clause []
+      ∷ [];
+}
+
+-- the bytes are read as the file
+pub example-read : reading exampleBytes ≡ sound exampleFile
+unfolding exampleBytes exampleFile reading headerFault limitsFit readFields sizeOf fieldFault ruleAt ruleOf ruleFault atomsFault positionsFault atomFault setFault positionFault tagFault bodyFault headerBodyFault lengthFits atomsOf contentOf headOf atomOf setAt lengthAt tagOf full inside inRange onlyIf common
+example-read = refl
+
+-- the file is written as the bytes
+pub example-written : written exampleFile ≡ exampleBytes
+unfolding exampleBytes exampleFile written writtenRules writtenRule framed tagByte contentBytes writtenAtoms fourBytes twoBytes
+example-written = refl
+
+-- its fields stand at the places 5, 23 and 32
+pub example-places : map (λ (f : Field). f .place) (fieldsOf exampleFile) ≡ 5 ∷ 23 ∷ 32 ∷ []
+unfolding exampleFile fieldsOf placed writtenRule framed tagByte contentBytes writtenAtoms fourBytes twoBytes
+example-places = refl

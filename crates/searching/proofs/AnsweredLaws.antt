@@ -1,0 +1,16 @@
+-- Laws of what a reply leaves: a reply that is the same leaves the same, and one without values nothing. Assumes nothing.
+use mathlib.Core.Path.{_≡_, sym, ap, subst}
+use mathlib.Core.List.{List, []}
+use Prim.Native.Nat.{ℕ}
+use Rattle.lists.specs.Buffer.{over}
+use Rattle.steps.specs.Reply as steps
+use Rattle.searching.specs.declared.reply.Reply.{Reply}
+use Rattle.searching.specs.Answered.{told, Answered}
+
+-- what answers a reply answers every reply that it is
+pub answers : {whole given : steps.Reply} {r : Reply} {before after : List ℕ} → whole ≡ given → Answered given r before after → Answered whole r before after
+answers {r = r} {before = before} {after = after} e h = subst (λ (g : steps.Reply). Answered g r before after) (sym e) h
+
+-- a reply without values leaves the buffer
+pub nothing-written : {given : steps.Reply} {r : Reply} {before : List ℕ} → r ≡ told given → given .values ≡ [] → Answered given r before before
+nothing-written {before = before} q e = record { reply = q; memory = sym (ap (λ (xs : List ℕ). over xs before) e) }

@@ -1,0 +1,4 @@
+pub mod AnsweredLaws
+pub mod ByteValues
+pub mod Turns
+pub mod Unique

@@ -1,0 +1,18 @@
+-- Any two results that the promises of `src/` allow are equal. Assumes nothing.
+use mathlib.Core.Path.{_≡_, sym, _∙_}
+use mathlib.Core.List.{List}
+use Prim.Native.Nat.{ℕ}
+use Rattle.sets.proofs.Unique.{one-result}
+use Rattle.searching.specs.declared.reply.Reply.{Reply}
+use Rattle.searching.specs.Promise.{Ends, Refuses, Searches}
+
+pub ended-unique : (number splits deadEnds : ℕ) {r s : Reply} → Ends number splits deadEnds r → Ends number splits deadEnds s → r ≡ s
+ended-unique number splits deadEnds p q = one-result p q
+
+pub refused-unique : (number place : ℕ) {r s : Reply} → Refuses number place r → Refuses number place s → r ≡ s
+refused-unique number place p q = one-result p q
+
+pub search-unique : (input : List ℕ) (v allowed : ℕ) (rooms : List ℕ) (splits deadEnds : ℕ) (before after after′ : List ℕ) (r s : Reply)
+    → Searches input v allowed rooms splits deadEnds before r after → Searches input v allowed rooms splits deadEnds before s after′
+    → (r ≡ s) × (after ≡ after′)
+search-unique input v allowed rooms splits deadEnds before after after′ r s p q = (p .reply ∙ sym (q .reply), p .memory ∙ sym (q .memory))

@@ -1,0 +1,46 @@
+// A reply as 01 has it: its number, its place, its splits and its dead ends. The contracts cite
+// specs/Promise.antt.
+ghost use Rattle.searching.specs.Promise.{Ends, Refuses};
+
+// A reply. The values of a plan are in the caller's buffer.
+pub struct Reply {
+    pub number: u32,
+    pub place: usize,
+    pub splits: u64,
+    pub dead_ends: u64,
+}
+
+impl Reply {
+    // 01's numbers of the replies that are no refusals.
+    pub const PLAN: u32 = 0;
+
+    pub const NONE: u32 = 1;
+
+    pub const UNDECIDED: u32 = 2;
+
+    pub const STALLED: u32 = 21;
+
+    // The reply at the end of a search: its place is 0.
+    pub fn ended(number: u32, splits: u64, dead_ends: u64) -> Reply
+        ensures { λ r. ⌜ Ends number splits «dead_ends» r ⌝ }
+    {
+        Reply {
+            number,
+            place: 0,
+            splits,
+            dead_ends,
+        }
+    }
+
+    // A refusal: zero splits and dead ends.
+    pub fn refused(number: u32, place: usize) -> Reply
+        ensures { λ r. ⌜ Refuses number place r ⌝ }
+    {
+        Reply {
+            number,
+            place,
+            splits: 0,
+            dead_ends: 0,
+        }
+    }
+}

@@ -1,0 +1,3 @@
+pub mod SettledEqualities
+pub mod SettledFields
+pub mod Unique

@@ -1,0 +1,2 @@
+pub mod SomeRoom
+pub mod Promise

@@ -1,0 +1,4 @@
+pub mod CheckLaws
+pub mod CheckedLaws
+pub mod FaultLaws
+pub mod Unique

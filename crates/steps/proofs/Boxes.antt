@@ -1,0 +1,2 @@
+pub mod BoxLaws
+pub mod BoxSizes

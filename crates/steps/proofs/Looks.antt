@@ -1,0 +1,9 @@
+pub mod ClauseLaws
+pub mod FittingRules
+pub mod InTurn
+pub mod LiveLaws
+pub mod OrderOfCutting
+pub mod PartLaws
+pub mod RuleLaws
+pub mod ShrinkLaws
+pub mod SixLaws

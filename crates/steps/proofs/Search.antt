@@ -1,0 +1,10 @@
+pub mod Allowance
+pub mod Bounds
+pub mod Counts
+pub mod Decided
+pub mod Says
+pub mod Special
+pub mod Split
+pub mod Tree
+pub mod Walk
+pub mod WideRooms

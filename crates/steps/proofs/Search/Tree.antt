@@ -1,0 +1,123 @@
+-- The tree of a search: what it meets in a box, and in both halves wherever it splits, to the end of each (`tree`). Assumes nothing.
+use mathlib.Core.Path.{_≡_, refl, sym, subst}
+use mathlib.Core.Logic.{_⊎_}
+use mathlib.Core.Bool.{Bool, true, false}
+use mathlib.Core.List.{List}
+use Prim.Native.Nat.{ℕ, zero, suc, _≤_, _<_}
+use native.Mathlib.Omega.{arith}
+use lib.Dec.{leb}
+use lib.ListN.{length, getD}
+use borrow.Author.Tests.{leb-true, leb-false}
+use Rattle.sets.specs.Sets.{count}
+use Rattle.rules.specs.Rules.{Field}
+use Rattle.rules.specs.Meaning.{MeetsFields, Before}
+use Rattle.steps.specs.Boxes.{openValues, InBox, BoxInside, Rooms, firstHalf, otherHalf}
+use Rattle.steps.specs.Shrinking.{Look, dead, alive, round, shrunk, settled}
+use Rattle.steps.specs.Search.{chosen}
+use Rattle.steps.proofs.Boxes.BoxLaws.{box-inside-length, box-inside-trans}
+use Rattle.steps.proofs.Boxes.BoxSizes.{open-inside, chosen-two, chosen-before, halves-in-order}
+use Rattle.steps.proofs.Boxes.BoxSizes.{first-half-rooms, other-half-rooms, first-half-inside, other-half-inside, first-half-falls, other-half-falls}
+use Rattle.steps.proofs.Looks.ShrinkLaws.{shrunk-inside, shrunk-fixed}
+
+-- a plan of a box: an assignment in it that meets all rules
+abbrev pub PlanIn : List Field → List ℕ → List ℕ → Type 0
+PlanIn fields box a = InBox a box × MeetsFields a fields
+
+-- the first in dictionary order of the assignments that are plans
+abbrev pub First : (List ℕ → Type 0) → List ℕ → Type 0
+First Plan a = Plan a × ((b : List ℕ) → Plan b → (a ≡ b) ⊎ Before a b)
+
+-- ---- where a box may be split
+
+-- an index to split at: its room has two or more values, and the first plan of the first half comes before every plan of the other half
+pub record SplitAt (fields : List Field) (box : List ℕ) (i : ℕ) : Type 0 where
+  pub there : i < length box
+  pub two : 2 ≤ count (getD box i 0)
+  pub ordered : (a b : List ℕ) → First (PlanIn fields (firstHalf i box)) a → PlanIn fields (otherHalf i box) b → Before a b
+
+-- the chosen index is one: the rooms before it are single
+pub chosen-splits : (fields : List Field) (box : List ℕ) → Rooms box → chosen box < length box → SplitAt fields box (chosen box)
+chosen-splits fields box rooms there =
+    let two = chosen-two box there in
+    record { there = there; two = two; ordered = λ a b f g. halves-in-order box (chosen box) rooms there two (chosen-before box) a b (f .0 .0) (g .0) }
+
+-- ---- smaller boxes
+
+-- a box that shrinks to another one
+pub record Shrinks (fields : List Field) (box inner : List ℕ) : Type 0 where
+  pub before : Rooms box
+  pub shrank : shrunk fields box ≡ alive inner
+  pub inside : BoxInside inner box
+  pub rooms : Rooms inner
+  pub fixed : round fields inner ≡ alive inner
+
+-- whatever a box of rooms has shrunk to is such another one
+pub shrinks : (fields : List Field) (box inner : List ℕ) → Rooms box → shrunk fields box ≡ alive inner → Shrinks fields box inner
+shrinks fields box inner rooms e =
+    let i = shrunk-inside fields box inner rooms e in
+    record { before = rooms; shrank = e; inside = i .0; rooms = i .1; fixed = shrunk-fixed fields box inner rooms e }
+
+-- a box that is searched next: it lies inside, and has fewer open values
+pub record Smaller (box half : List ℕ) : Type 0 where
+  pub inside : BoxInside half box
+  pub rooms : Rooms half
+  pub falls : openValues half < openValues box
+
+module _ {fields : List Field} {box inner : List ℕ} {i : ℕ} (s : Shrinks fields box inner) (p : SplitAt fields inner i) where
+  -- a half of the shrunk box is
+  smaller : (half : List ℕ) → BoxInside half inner → Rooms half → openValues half < openValues inner → Smaller box half
+  smaller half h rooms falls = record {
+    inside = box-inside-trans half inner box h (s .inside);
+    rooms = rooms;
+    falls = omega (arith, open-inside inner box (s .rooms) (s .before) (s .inside));
+  }
+
+  -- so is the first
+  pub first-smaller : Smaller box (firstHalf i inner)
+  first-smaller =
+      smaller (firstHalf i inner) (first-half-inside inner i (s .rooms) (p .there) (p .two)) (first-half-rooms inner i (s .rooms) (p .there) (p .two))
+      (first-half-falls inner i (s .rooms) (p .there) (p .two))
+
+  -- and the other
+  pub other-smaller : Smaller box (otherHalf i inner)
+  other-smaller =
+      smaller (otherHalf i inner) (other-half-inside inner i (s .rooms) (p .there) (p .two)) (other-half-rooms inner i (s .rooms) (p .there) (p .two))
+      (other-half-falls inner i (s .rooms) (p .there) (p .two))
+
+-- what holds of a box by its length holds of those inside
+pub same-length : (P : ℕ → Type 0) (b c : List ℕ) → BoxInside b c → P (length c) → P (length b)
+same-length P b c i = subst P (sym (box-inside-length b c i))
+
+-- ---- the tree
+
+-- a box is dead; or it shrinks to a box that is settled, or that is not and has no room to split, or that is not and is split at an index
+pub data Tree (fields : List Field) : List ℕ → Type 0 where
+  dies : {box : List ℕ} (place : ℕ) → Rooms box → shrunk fields box ≡ dead place → Tree fields box
+  settles : {box inner : List ℕ} → Shrinks fields box inner → settled fields inner ≡ true → Tree fields box
+  stalls : {box inner : List ℕ} → Shrinks fields box inner → settled fields inner ≡ false → length inner ≤ chosen inner → Tree fields box
+  divides : {box inner : List ℕ} {i : ℕ} → Shrinks fields box inner → settled fields inner ≡ false → chosen inner ≡ i → SplitAt fields inner i
+      → Tree fields (firstHalf i inner) → Tree fields (otherHalf i inner) → Tree fields box
+
+module _ (fields : List Field) where
+  -- the number of open values falls from a box to its halves
+  grown : (k : ℕ) (box : List ℕ) → Rooms box → openValues box < k → Tree fields box
+  grown zero box rooms h = absurd (omega arith)
+  grown (suc k) box rooms h = look (grown k) (shrunk fields box) refl
+    where
+      test : ((b : List ℕ) → Rooms b → openValues b < k → Tree fields b) → {inner : List ℕ} → Shrinks fields box inner
+          → (t u : Bool) → settled fields inner ≡ t → leb (length inner) (chosen inner) ≡ u → Tree fields box
+      test rest s true u e l = settles s e
+      test rest {inner} s false true e l = stalls s e (leb-true (length inner) (chosen inner) l)
+      test rest {inner} s false false e l =
+          let p = chosen-splits fields inner (s .rooms) (leb-false (length inner) (chosen inner) l) in
+          let f = first-smaller s p in
+          let o = other-smaller s p in
+          divides s e refl p (rest (firstHalf (chosen inner) inner) (f .rooms) (omega arith)) (rest (otherHalf (chosen inner) inner) (o .rooms) (omega arith))
+
+      look : ((b : List ℕ) → Rooms b → openValues b < k → Tree fields b) → (l : Look) → shrunk fields box ≡ l → Tree fields box
+      look rest (dead place) e = dies place rooms e
+      look rest (alive inner) e = test rest (shrinks fields box inner rooms e) (settled fields inner) (leb (length inner) (chosen inner)) refl refl
+
+  -- every box of rooms has a tree
+  pub tree : (box : List ℕ) → Rooms box → Tree fields box
+  tree box rooms = grown (suc (openValues box)) box rooms (omega arith)

@@ -1,0 +1,2 @@
+pub mod LadderLaws
+pub mod SpecialExactly

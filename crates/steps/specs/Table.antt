@@ -1,0 +1,37 @@
+-- 01's table of replies: input, buffer length and allowance to the one reply. Assumes nothing.
+use Prim.Native.Nat.{ℕ}
+use mathlib.Core.List.{List}
+use lib.Dec.{ltb}
+use lib.ListN.{length}
+use Rattle.rules.specs.Writing.{fieldsOf}
+use Rattle.rules.specs.Rules.{File}
+use Rattle.rules.specs.Reading.{Reading, sound, refused, reading}
+use Rattle.steps.specs.Boxes.{startBox}
+use Rattle.steps.specs.Shrinking.{ifTest}
+use Rattle.steps.specs.Reply.{Reply, refusal}
+use Rattle.steps.specs.Search.{searched, explored}
+
+-- the box that the search of a file starts with: {1..n} everywhere
+unfoldable pub startOf : File → List ℕ
+startOf file = startBox (file .v) (file .n)
+
+-- the search of a file
+unfoldable pub planned : File → ℕ → Reply
+planned file allowed = searched (fieldsOf file) allowed (startOf file) 0 0
+
+-- the splits that the search of a file needs: those of the search without an allowance
+unfoldable pub needed : File → ℕ
+needed file = explored (fieldsOf file) (startOf file) .splits
+
+-- a refusal with its number and place, or the search of the file read
+unfoldable pub ofReading : Reading → ℕ → Reply
+ofReading (refused number place) allowed = refusal number place
+ofReading (sound file) allowed = planned file allowed
+
+-- 10, 11, 12, then what was read
+unfoldable pub replyOf : List ℕ → ℕ → ℕ → Reply
+replyOf input buffer allowed =
+    ifTest (ltb 32768 (length input)) (refusal 10 0) λ _.
+    ifTest (ltb buffer 64) (refusal 11 0) λ _.
+    ifTest (ltb 1000000 allowed) (refusal 12 0) λ _.
+    ofReading (reading input) allowed

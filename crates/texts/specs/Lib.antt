@@ -1,0 +1,4 @@
+pub mod Bytes
+pub mod Grown
+pub mod Promise
+pub mod ReadBack
