@@ -19,7 +19,7 @@ use Rattle.lists.specs.Lists.{Some}
 use Rattle.lists.proofs.ListLaws.{some-of-listed, listed-of-some, some-map}
 use Rattle.steps.specs.Boxes.{roomAt}
 use Rattle.steps.specs.Shrinking.{united, settledBy, settledClause}
-use Rattle.steps.proofs.Looks.ClauseLaws.{Within, settled-some}
+use Rattle.steps.proofs.Looks.ClauseLaws.{ShowsSettled, settled-some}
 use Rattle.steps.proofs.Looks.LiveLaws.{member-united}
 use Rattle.rules.specs.Contents.{Atoms}
 use Rattle.clauses.specs.Scans.{atomsFrom, AtomsFrom}
@@ -31,7 +31,7 @@ use Rattle.clauses.proofs.FrontRooms.{room-there}
 
 module _ (box : List ℕ) (atoms : List Atom) where
   -- a room that lies inside the union of some of the atoms lies inside that of all
-  wider : (p : ℕ) (some : List Atom) → ((c : Atom) → List·Memᴰ c some → List·Memᴰ c atoms) → Within some box p → Within atoms box p
+  wider : (p : ℕ) (some : List Atom) → ((c : Atom) → List·Memᴰ c some → List·Memᴰ c atoms) → ShowsSettled some box p → ShowsSettled atoms box p
   wider p some among t = inside-iff (roomAt box p) (united p atoms) .1 (λ x u. have x (inside-iff (roomAt box p) (united p some) .0 t x u))
     where
       have : (x : ℕ) → member x (united p some) → member x (united p atoms)
@@ -40,10 +40,10 @@ module _ (box : List ℕ) (atoms : List Atom) where
           member-united p x atoms .1 (some-of-listed (λ b. (b .position ≡ p) × member x (b .set)) (among (found .0) (found .1)) (found .2))
 
   -- an atom whose position has its room inside the union of its sets among them shows the clause settled
-  shows-settled : (a : Atom) (some : List Atom) → ((c : Atom) → List·Memᴰ c some → List·Memᴰ c atoms) → List·Memᴰ a atoms → Within some box (a .position) → settledClause box atoms ≡ true
+  shows-settled : (a : Atom) (some : List Atom) → ((c : Atom) → List·Memᴰ c some → List·Memᴰ c atoms) → List·Memᴰ a atoms → ShowsSettled some box (a .position) → settledClause box atoms ≡ true
   unfolding settledClause
   shows-settled a some among listed t =
-      test-true (settledBy atoms atoms box) (settled-some atoms atoms box .1 (some-of-listed (λ b. Within atoms box (b .position)) listed (wider (a .position) some among t)))
+      test-true (settledBy atoms atoms box) (settled-some atoms atoms box .1 (some-of-listed (λ b. ShowsSettled atoms box (b .position)) listed (wider (a .position) some among t)))
 
 -- an atom whose set has its position's room inside it shows the clause settled
 pub set-settles : {v len i : ℕ} {content : List ℕ} (rooms : List ℕ) (from : AtomsFrom v len i content) → i < len → {a : Atom} → a ≡ atomOf (drop i content) → {b : Bool}
@@ -58,15 +58,15 @@ set-settles {v} {len} {i} {content} rooms from there {a} here test e =
 
 -- some atom's position has its room inside the union of its sets among these atoms
 abbrev Shown : List Atom → List ℕ → Type 0
-Shown atoms box = Some (λ c. Within atoms box (c .position)) atoms
+Shown atoms box = Some (λ c. ShowsSettled atoms box (c .position)) atoms
 
 -- With an atom more in front, whose position's room does not lie inside its union, none of the others becomes one that shows the clause settled.
-still-open : (box : List ℕ) (a : Atom) (behind : List Atom) → (Within (a ∷ behind) box (a .position) → ⊥) → (Shown behind box → ⊥) → Shown (a ∷ behind) box → ⊥
+still-open : (box : List ℕ) (a : Atom) (behind : List Atom) → (ShowsSettled (a ∷ behind) box (a .position) → ⊥) → (Shown behind box → ⊥) → Shown (a ∷ behind) box → ⊥
 still-open box a behind out none shown =
-    ⊎-elim out (λ s. none (some-map (λ c. Within (a ∷ behind) box (c .position)) (λ c. Within behind box (c .position)) behind (λ c t. one c t (ℕ-discrete (a .position) (c .position))) s)) shown
+    ⊎-elim out (λ s. none (some-map (λ c. ShowsSettled (a ∷ behind) box (c .position)) (λ c. ShowsSettled behind box (c .position)) behind (λ c t. one c t (ℕ-discrete (a .position) (c .position))) s)) shown
   where
-    one : (c : Atom) → Within (a ∷ behind) box (c .position) → Dec (a .position ≡ c .position) → Within behind box (c .position)
-    one c t (yes same) = absurd (out (subst (Within (a ∷ behind) box) (sym same) t))
+    one : (c : Atom) → ShowsSettled (a ∷ behind) box (c .position) → Dec (a .position ≡ c .position) → ShowsSettled behind box (c .position)
+    one c t (yes same) = absurd (out (subst (ShowsSettled (a ∷ behind) box) (sym same) t))
     one c t (no other) = subst (λ (m : ℕ). T (inside (roomAt box (c .position)) m)) (united-elsewhere a behind (c .position) other) t
 
 -- The sets of the atoms from a place on are united, position by position, and these atoms do not show the clause settled.

@@ -110,11 +110,11 @@ unfolding roomAt
 live-room atoms box p rooms h = rooms-at box (p - 1) rooms (omega arith)
 
 -- the room of a position lies inside its union
-abbrev pub Within : List Atom → List ℕ → ℕ → Type 0
-Within atoms box p = T (inside (roomAt box p) (united p atoms))
+abbrev pub ShowsSettled : List Atom → List ℕ → ℕ → Type 0
+ShowsSettled atoms box p = T (inside (roomAt box p) (united p atoms))
 
 -- a clause is settled exactly if some atom's position has its room inside its union
-pub settled-some : (some atoms : List Atom) (box : List ℕ) → T (settledBy some atoms box) ↔ Some (λ a. Within atoms box (a .position)) some
+pub settled-some : (some atoms : List Atom) (box : List ℕ) → T (settledBy some atoms box) ↔ Some (λ a. ShowsSettled atoms box (a .position)) some
 unfolding settledBy
 settled-some [] atoms box = Iff·rfl
 settled-some (a ∷ more) atoms box =
@@ -131,11 +131,11 @@ live-two atoms box p rooms u live = go (decLe 2 (count (roomAt box p)))
     shared : (x : ℕ) × member x (roomAt box p) × member x (united p atoms)
     shared = shared-of-live atoms p (roomAt box p) mask (live .2)
 
-    unsettled : Within atoms box p → ⊥
+    unsettled : ShowsSettled atoms box p → ⊥
     unsettled t =
         let named = united-named p (shared .0) atoms (shared .2) in
-        let here = subst (Within atoms box) (sym (named .2)) t in
-        subst T u (settled-some atoms atoms box .1 (some-of-listed (λ a. Within atoms box (a .position)) (named .1) here))
+        let here = subst (ShowsSettled atoms box) (sym (named .2)) t in
+        subst T u (settled-some atoms atoms box .1 (some-of-listed (λ a. ShowsSettled atoms box (a .position)) (named .1) here))
 
     go : Dec (2 ≤ count (roomAt box p)) → 2 ≤ count (roomAt box p)
     go (yes two) = two
@@ -157,7 +157,7 @@ live-larger atoms b c p rooms i live =
 pub clause-settled : (atoms : List Atom) → Settling (λ v. ClauseFits v atoms) (λ a. Meets a (clause atoms)) (λ box. settledClause box atoms)
 unfolding settledClause roomAt
 clause-settled atoms box a fits t h =
-    let found = listed-of-some (λ b. Within atoms box (b .position)) atoms (settled-some atoms atoms box .0 t) in
+    let found = listed-of-some (λ b. ShowsSettled atoms box (b .position)) atoms (settled-some atoms atoms box .0 t) in
     let p = found .0 .position in
     let fit = fits-position (length box) atoms fits (found .1) in
     let value : member (valueAt a p) (roomAt box p) = in-box-at a box (p - 1) h (omega arith) in
