@@ -20,7 +20,7 @@
  *     four cells and the input all lie apart. Nothing else writes to any of them until it returns.
  *   - A uint64_t cell is aligned as a uint64_t is, and may be read and written.
  *   - oarloom_plan has 8 MiB of stack. Most files need little, but the deepest searches need more
- *     than 5 MiB. A thread may have less than the program's first one: give it 8 MiB at its start.
+ *     than 4 MiB. A thread may have less than the program's first one: give it 8 MiB at its start.
  */
 #ifndef OARLOOM_H
 #define OARLOOM_H
