@@ -7,9 +7,9 @@ use native.Mathlib.Nat.{lt-of-lt-of-le, lt-of-le-of-lt, pow-suc, le-add-right, l
 use native.Mathlib.Omega.{arith}
 use lib.Dec.{T, eqb, eqb→eq, lit<}
 use lib.Pow.{pow-mono, pow-lt, ones-lt}
-use lib.Bits.{or-lt, xor-lt, and-le-l, and-le-r}
+use lib.Bits.{or-lt, and-le-l, and-le-r}
 use borrow.Author.Tests.{eq-eqb}
-use Rattle.sets.specs.Sets.{digit, member, inRange, onlyIf, full, single, union, common, complement, isEmpty, inside}
+use Rattle.sets.specs.Sets.{digit, member, inRange, onlyIf, full, single, union, common, isEmpty, inside}
 use Rattle.sets.proofs.Digits.{digit-cases, digit-extensional}
 use Rattle.sets.proofs.Members.{member-digit, member-empty, member-common, in-range}
 use Rattle.lists.proofs.TestLaws.{true-test}
@@ -36,10 +36,6 @@ union-below a b = or-lt 32 a b
 pub common-below : (a b : ℕ) → a < 2 ^ 32 → common a b < 2 ^ 32
 unfolding common
 common-below a b h = lt-of-le-of-lt (and-le-l a b) h
-
-pub complement-below : (n m : ℕ) → complement n m < 2 ^ 32
-unfolding complement
-complement-below n m = xor-lt 32 (full n) (common (full n) m) (full-below n) (common-below (full n) m (full-below n))
 
 -- ---- sets with the same members are the same
 

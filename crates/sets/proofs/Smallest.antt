@@ -70,10 +70,6 @@ smallest-member m h ne = member-of-listed m (smallest m) (smallest-there m (λ e
 pub smallest-range : (m : ℕ) → m < 2 ^ 32 → (m ≡ 0 → ⊥) → (1 ≤ smallest m) × (smallest m ≤ 32)
 smallest-range m h ne = member-range (smallest m) m h (smallest-member m h ne)
 
--- the smallest value of {x}
-pub smallest-of-single : (x : ℕ) → 1 ≤ x → x ≤ 32 → smallest (single x) ≡ x
-smallest-of-single x h l = member-single x (smallest (single x)) .0 (smallest-least (single x) x (single-below x) (member-single x x .1 (h, l, refl)) .0) .2
-
 -- ---- the smallest value alone, and the others
 
 -- a set that is not empty holds {its smallest value}
