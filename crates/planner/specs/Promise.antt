@@ -20,6 +20,7 @@ pub record Accepted (input before : List ℕ) (allowed : ℕ) (file : File) : Ty
   pub modest : allowed ≤ 1000000
   pub read : reading input ≡ sound file
 
+-- what `plan` promises of its reply and of the buffer, whatever the input, the buffer and the allowance are
 pub record Planned (input before after : List ℕ) (allowed : ℕ) (r : Reply) : Type 0 where
   -- Demand 1. The reply is the one of 01's table, and the buffer has the plan's values in front of the bytes that it had.
   pub answered : Answered (replyOf input (length before) allowed) r before after
