@@ -192,7 +192,8 @@ static struct outcome compare(size_t answer_len, uint64_t allowance)
     return planned;
 }
 
-/* ---- 01's examples, with the replies that 01 states ---- */
+/* ---- examples with the replies that are right: 01's, l with the counts of 02 (R-2); and files that tell
+   readings of R-2 apart, which crates/bench_examples/src/step4.rt works out by hand ---- */
 
 enum { CLAUSE = -1, EQUALITY = -2, END = -3 };
 
@@ -216,7 +217,18 @@ static const struct example {
     { "j", { 2, 3, CLAUSE, 1, 6, CLAUSE, 1, 1, 2, 4, END }, 1000000, 0, 0, 0, "23" },
     { "k", { 2, 2, CLAUSE, 1, 1, 2, 1, END }, 1000000, 0, 1, 0, "11" },
     { "l", { 3, 2, CLAUSE, 2, 1, 3, 1, CLAUSE, 2, 1, 3, 2, CLAUSE, 2, 2, 3, 1, CLAUSE, 2, 2, 3, 2, END },
-      1000000, 1, 3, 4, "" },
+      1000000, 1, 1, 2, "" },
+    { "l, allowance 0",
+      { 3, 2, CLAUSE, 2, 1, 3, 1, CLAUSE, 2, 1, 3, 2, CLAUSE, 2, 2, 3, 1, CLAUSE, 2, 2, 3, 2, END },
+      0, 2, 0, 0, "" },
+    { "own set", { 3, 2, CLAUSE, 1, 3, CLAUSE, 2, 1, 3, 1, END }, 1000000, 0, 1, 0, "111" },
+    { "own sets united", { 3, 2, CLAUSE, 1, 1, 1, 2, 2, 1, CLAUSE, 2, 2, 3, 1, END }, 1000000, 0, 1, 0, "111" },
+    { "settled by another", { 3, 3, CLAUSE, 2, 3, CLAUSE, 1, 1, 2, 3, CLAUSE, 2, 1, 3, 1, END },
+      1000000, 0, 1, 0, "111" },
+    { "named and not live", { 3, 3, CLAUSE, 1, 6, CLAUSE, 1, 1, 2, 1, 3, 1, END }, 1000000, 0, 1, 0, "211" },
+    { "values settled", { 5, 3, CLAUSE, 1, 3, CLAUSE, 2, 1, CLAUSE, 3, 2, EQUALITY, 7, 1, 2, 3, 4, 5, END },
+      1000000, 0, 1, 0, "11213" },
+    { "later clause", { 3, 2, CLAUSE, 2, 1, 3, 1, CLAUSE, 1, 2, 2, 2, END }, 1000000, 0, 1, 0, "121" },
     { "largest", { 64, 32, END }, 1000000, 0, 0, 0,
       "1111111111111111111111111111111111111111111111111111111111111111" },
 };
@@ -260,7 +272,7 @@ static void expect(int holds, const char *name)
 {
     if (holds)
         return;
-    printf("both planners give another reply than 01 states for its example: %s\n", name);
+    printf("both planners give another reply than the right one for the example: %s\n", name);
     exit(1);
 }
 
@@ -476,10 +488,107 @@ static void make_threes(void)
     }
 }
 
+/* Clauses of two or three of the last positions, from `from` to v, with one or two of their values: they
+   leave few plans or none. */
+static void hard_clauses(uint32_t from, uint32_t v, uint32_t n)
+{
+    for (uint32_t left = (v + 1 - from) * (2 + below(3)); left > 0; left--) {
+        write_clause(&file);
+        for (uint32_t atoms = 2 + below(2); atoms > 0; atoms--) {
+            uint32_t position = from + below(v + 1 - from);
+
+            write_atom(&file, position, one_in(2) ? two_values(n) : value_alone(1 + below(n)));
+        }
+    }
+}
+
+/* Positions in front that step 4 passes over, and hard clauses on those behind: no rule names a position
+   in front, or it is named only where the clause is settled or the position is not live. */
+static void make_passed_over(void)
+{
+    uint32_t front = 1 + below(4), v = front + 2 + below(4), n = 2 + below(3);
+    uint32_t all = values_to(n);
+
+    write_header(&file, v, n);
+    for (uint32_t p = 1; p <= front; p++) {
+        uint32_t q = front + 1 + below(v - front), r = front + 1 + below(v - front);
+        uint32_t set = (uint32_t)random_next(&chance) & all;
+
+        switch (below(8)) {
+        case 0: /* no rule names it */
+        case 1:
+            break;
+        case 2: /* only a clause that another position settles */
+            write_clause(&file);
+            write_atom(&file, p, set);
+            write_atom(&file, q, all);
+            break;
+        case 3: /* its sets settle the clause, but only united */
+            write_clause(&file);
+            write_atom(&file, p, set);
+            write_atom(&file, q, any_set(n));
+            write_atom(&file, p, all & ~set);
+            break;
+        case 4: /* its room, once it is cut, lies inside the union, and no single set holds it */
+            write_clause(&file);
+            write_atom(&file, p, value_alone(1) | value_alone(n));
+            write_clause(&file);
+            write_atom(&file, p, value_alone(1));
+            write_atom(&file, q, any_set(n));
+            write_atom(&file, p, value_alone(n));
+            break;
+        case 5: /* another position's room does so */
+            write_clause(&file);
+            write_atom(&file, q, value_alone(1) | value_alone(n));
+            write_clause(&file);
+            write_atom(&file, p, set);
+            write_atom(&file, q, value_alone(n));
+            write_atom(&file, q, value_alone(1));
+            break;
+        case 6: /* named in a clause that need not be settled, and not live in it */
+            write_clause(&file);
+            write_atom(&file, p, all & ~value_alone(1));
+            write_clause(&file);
+            write_atom(&file, p, value_alone(1));
+            write_atom(&file, q, two_values(n));
+            write_atom(&file, r, two_values(n));
+            break;
+        default: /* live in a clause with one behind, until that one is split */
+            write_clause(&file);
+            write_atom(&file, p, set);
+            write_atom(&file, q, all & ~value_alone(1 + below(n)));
+        }
+    }
+    hard_clauses(front + 1, v, n);
+}
+
+/* An equality of which some values are settled, each alone in a room, and others not; position 1 has
+   values of the first kind, and now and then one of the other. */
+static void make_values_settled(void)
+{
+    uint32_t n = 3 + below(2), settled = 2 + below(n - 2), v = 1 + settled + 2 + below(3);
+
+    write_header(&file, v, n);
+    write_clause(&file);
+    write_atom(&file, 1, one_in(4) ? values_to(settled + 1) : values_to(settled));
+    for (uint32_t value = 1; value <= settled; value++) {
+        write_clause(&file);
+        write_atom(&file, 1 + value, value_alone(value));
+    }
+    write_equality(&file, values_to(n));
+    for (uint32_t p = 1; p <= v; p++)
+        if (!one_in(12))
+            write_named(&file, p);
+    if (one_in(2))
+        hard_clauses(2 + settled, v, n);
+    if (one_in(3))
+        any_equality(v, n, v);
+}
+
 /* The workloads of the table, in small. */
 static void make_workload(void)
 {
-    switch (below(6)) {
+    switch (below(7)) {
     case 0: make_sudoku(&file, 4, (int)below(9)); break;
     case 1: make_sudoku(&file, 6, 6 + (int)below(12)); break;
     case 2: make_deep(&file, 1 + (int)below(5), 0); break;
@@ -487,6 +596,12 @@ static void make_workload(void)
         int clauses = (int)below(100);
 
         make_ladder_random(&file, clauses, (int)below(1000));
+        break;
+    }
+    case 4: {
+        int size = 1 + (int)below(8);
+
+        make_half_wired(&file, size, (int)below(3));
         break;
     }
     default: {
@@ -784,13 +899,12 @@ static int is_long(void)
 {
     struct outcome probe;
     uint8_t area[AREA] = { 0 };
-    uint64_t splits_after_cut = yardstick_splits_after_cut, dead_after_cut = yardstick_dead_after_cut;
+    struct yardstick_counts counts = yardstick_counts;
 
     memcpy(input_end - file.length, file.bytes, file.length);
     call(yardstick_plan, area, 64, PROBE, &probe);
     /* This call is not one of those compared, so it does not count. */
-    yardstick_splits_after_cut = splits_after_cut;
-    yardstick_dead_after_cut = dead_after_cut;
+    yardstick_counts = counts;
     return probe.number == 2;
 }
 
@@ -833,7 +947,7 @@ static void compare_file(uint64_t number)
 
 static void make_file(void)
 {
-    uint32_t kind = below(600);
+    uint32_t kind = below(700);
 
     if (kind < 2)
         make_long();
@@ -853,8 +967,12 @@ static void make_file(void)
         make_climb();
     else if (kind < 580)
         make_limits();
-    else
+    else if (kind < 600)
         make_bytes();
+    else if (kind < 670)
+        make_passed_over();
+    else
+        make_values_settled();
     if (one_in(3))
         shuffle();
     if (one_in(4))
@@ -907,9 +1025,15 @@ int main(int argc, char **argv)
     print_count("a full set", had.full_set);
     print_count("64 positions and 32 values", had.at_limit);
     printf("  in the searches, by the yardstick:\n");
-    print_count("splits where the smallest values were cut away in the same box", yardstick_splits_after_cut);
-    print_count("boxes found dead after a room of them was cut", yardstick_dead_after_cut);
-    print_count("most rounds of shrinking in one box", yardstick_most_rounds);
+    print_count("splits", yardstick_counts.splits);
+    print_count("splits where the smallest values were cut away in the same box", yardstick_counts.splits_after_cut);
+    print_count("splits that passed over a lower position of two or more values", yardstick_counts.passed_over);
+    print_count("  among them one that no rule names", yardstick_counts.passed_unnamed);
+    print_count("  one that is live, where all rules that name it are settled", yardstick_counts.passed_live);
+    print_count("  one that a clause not settled names and that is not live there", yardstick_counts.passed_named);
+    print_count("  one live in an equality not settled, in settled clauses alone", yardstick_counts.passed_equality);
+    print_count("boxes found dead after a room of them was cut", yardstick_counts.dead_after_cut);
+    print_count("most rounds of shrinking in one box", yardstick_counts.most_rounds);
     print_count("most splits in one call", most_splits);
     print_count("searches of more than 1,500 splits with 1,000,000 allowed", long_run);
     print_count("such searches with 10 allowed in place of 1,000,000", spared);

@@ -119,12 +119,11 @@ static int attacks(int kind, int size, int down, int aside)
 }
 
 /* One clause for each pair of rows and each column: the upper row does not take this column, or the
-   lower row takes a column that is not attacked from there. */
-void make_queens(struct rule_file *file, int size, int kind)
+   lower row takes a column that is not attacked from there. Row 1 is the position behind `unused`. */
+static void write_queens(struct rule_file *file, int unused, int size, int kind)
 {
     uint32_t all = values_to((uint32_t)size);
 
-    write_header(file, (uint32_t)size, (uint32_t)size);
     for (int upper = 1; upper <= size; upper++)
         for (int lower = upper + 1; lower <= size; lower++)
             for (int column = 1; column <= size; column++) {
@@ -134,9 +133,23 @@ void make_queens(struct rule_file *file, int size, int kind)
                     if (!attacks(kind, size, lower - upper, other - column))
                         open |= value_alone((uint32_t)other);
                 write_clause(file);
-                write_atom(file, (uint32_t)upper, all & ~value_alone((uint32_t)column));
-                write_atom(file, (uint32_t)lower, open);
+                write_atom(file, (uint32_t)(unused + upper), all & ~value_alone((uint32_t)column));
+                write_atom(file, (uint32_t)(unused + lower), open);
             }
+}
+
+void make_queens(struct rule_file *file, int size, int kind)
+{
+    write_header(file, (uint32_t)size, (uint32_t)size);
+    write_queens(file, 0, size, kind);
+}
+
+/* Where the queens have no plan, a search that splits the unused channels finds that out again for each
+   of the size^32 ways to set them. */
+void make_half_wired(struct rule_file *file, int size, int kind)
+{
+    write_header(file, 64, (uint32_t)size);
+    write_queens(file, 32, size, kind);
 }
 
 /* ---- sudoku ---- */
@@ -372,6 +385,10 @@ const struct workload workloads[] = {
     { "torus queens 15", make_queens, 15, QUEENS_TORUS, LARGEST_ALLOWANCE, 0 },
     { "torus queens 16", make_queens, 16, QUEENS_TORUS, LARGEST_ALLOWANCE, 0 },
     { "torus queens 17", make_queens, 17, QUEENS_TORUS, LARGEST_ALLOWANCE, 0 },
+
+    { "half-wired, torus queens 8", make_half_wired, 8, QUEENS_TORUS, LARGEST_ALLOWANCE, 1 },
+    { "half-wired, torus queens 10", make_half_wired, 10, QUEENS_TORUS, LARGEST_ALLOWANCE, 1 },
+    { "half-wired, torus queens 12", make_half_wired, 12, QUEENS_TORUS, LARGEST_ALLOWANCE, 0 },
 
     { "sudoku 4x4, empty", make_sudoku, 4, 0, LARGEST_ALLOWANCE, 1 },
     { "sudoku 4x4, 4 given", make_sudoku, 4, 4, LARGEST_ALLOWANCE, 1 },

@@ -54,6 +54,8 @@ enum queens { QUEENS_PLAIN, QUEENS_SUPER, QUEENS_TORUS };
 
 /* `size` queens on a board of `size` times `size` fields: a position is a row and a value a column. */
 void make_queens(struct rule_file *file, int size, int kind);
+/* A rack of 64 channels of which no rule names the first 32; `size` queens stand on the next ones. */
+void make_half_wired(struct rule_file *file, int size, int kind);
 /* A sudoku of `size` times `size` cells (4, 6 or 8), with `givens` cells of a solution given. */
 void make_sudoku(struct rule_file *file, int size, int givens);
 /* A ladder rack where each position drives the next one up, with the fields in that order or against

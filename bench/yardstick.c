@@ -1,8 +1,9 @@
-/* The yardstick: see yardstick.h. The section names in the comments are those of document 01.
+/* The yardstick: see yardstick.h. The section names in the comments are those of document 01; step 4 is
+   the one of document 02 (R-2).
 
    The rules are parsed once, into arrays: a clause into its positions, each with the union of that
    position's sets; an equality into M and its positions, each once. The search then never looks at the
-   file again. Apart from that it goes by 01's steps as they are written. */
+   file again. Apart from that it goes by the steps as they are written. */
 #include "yardstick.h"
 
 enum {
@@ -47,6 +48,7 @@ struct rule {
     uint32_t set;   /* M of an equality */
     uint32_t first; /* its parts are parts[first] up to, not including, parts[end] */
     uint32_t end;
+    uint64_t named; /* bit i: position i, counted from 0, has a part */
 };
 
 /* The shortest field has 3 bytes, and each part has at least a byte of its own in the file. */
@@ -77,6 +79,7 @@ static int parse_clause(const uint8_t *content, size_t length)
     rule->is_equality = 0;
     rule->set = 0;
     rule->first = part_count;
+    rule->named = 0;
     for (size_t at = 0; at < length; at += ATOM) {
         uint32_t position = content[at];
         uint32_t set = four_bytes(content + at + 1);
@@ -92,6 +95,7 @@ static int parse_clause(const uint8_t *content, size_t length)
             parts[part_count].position = position;
             parts[part_count].set = set;
             part_of[position] = ++part_count;
+            rule->named |= (uint64_t)1 << position;
         }
     }
     rule->end = part_count;
@@ -102,11 +106,11 @@ static int parse_clause(const uint8_t *content, size_t length)
 static int parse_equality(const uint8_t *content, size_t length)
 {
     struct rule *rule = &rules[rule_count++];
-    uint64_t named = 0; /* bit i: position i, counted from 0, was named */
 
     rule->is_equality = 1;
     rule->set = four_bytes(content);
     rule->first = part_count;
+    rule->named = 0;
     if (rule->set & ~full_set())
         return WRONG_SET;
     for (size_t at = 4; at < length; at++) {
@@ -115,9 +119,9 @@ static int parse_equality(const uint8_t *content, size_t length)
         if (position == 0 || position > v)
             return WRONG_POSITION;
         position--;
-        if (named >> position & 1)
+        if (rule->named >> position & 1)
             continue;
-        named |= (uint64_t)1 << position;
+        rule->named |= (uint64_t)1 << position;
         parts[part_count].position = position;
         parts[part_count].set = rule->set;
         part_count++;
@@ -186,7 +190,7 @@ static uint64_t allowed, split_count, dead_end_count;
 static uint8_t plan[POSITIONS];
 
 #ifdef YARDSTICK_COUNTS
-uint64_t yardstick_splits_after_cut, yardstick_dead_after_cut, yardstick_most_rounds;
+struct yardstick_counts yardstick_counts;
 #endif
 
 /* The smallest value of a room that is not empty, as a set of its own. */
@@ -276,15 +280,15 @@ static int shrink(struct box *box)
     do {
         changed = 0;
 #ifdef YARDSTICK_COUNTS
-        if (++rounds > yardstick_most_rounds)
-            yardstick_most_rounds = rounds;
+        if (++rounds > yardstick_counts.most_rounds)
+            yardstick_counts.most_rounds = rounds;
 #endif
         for (const struct rule *rule = rules; rule < rules + rule_count; rule++) {
             enum look look = rule->is_equality ? look_at_equality(rule, box) : look_at_clause(rule, box);
 
             if (look == DEAD) {
 #ifdef YARDSTICK_COUNTS
-                yardstick_dead_after_cut += cut || changed;
+                yardstick_counts.dead_after_cut += cut || changed;
 #endif
                 return 0;
             }
@@ -323,20 +327,119 @@ static int equality_settled(const struct rule *rule, const struct box *box)
     return alone == rule->set;
 }
 
-/* Step 2. */
-static int settled(const struct box *box)
+/* Step 2: the first rule that is not settled; the end of the rules where the box is settled. */
+static const struct rule *first_unsettled(const struct box *box)
 {
-    for (const struct rule *rule = rules; rule < rules + rule_count; rule++)
-        if (!(rule->is_equality ? equality_settled(rule, box) : clause_settled(rule, box)))
-            return 0;
-    return 1;
+    const struct rule *rule = rules;
+
+    while (rule < rules + rule_count
+           && (rule->is_equality ? equality_settled(rule, box) : clause_settled(rule, box)))
+        rule++;
+    return rule;
 }
+
+/* Step 4 at a clause: the positions that are live in it, as bits; none where it is settled. */
+static uint64_t clause_live(const struct rule *rule, const struct box *box)
+{
+    uint64_t live = 0;
+
+    for (const struct part *part = parts + rule->first; part < parts + rule->end; part++) {
+        uint32_t room = box->rooms[part->position];
+
+        if (!(room & ~part->set))
+            return 0;
+        if (room & part->set)
+            live |= (uint64_t)1 << part->position;
+    }
+    return live;
+}
+
+/* Step 4 at an equality: the positions that are live in some clause of it that is not settled, as bits.
+   The clause of a value is settled where the value is alone in some room; "it is in M", where the room
+   lies inside M. */
+static uint64_t equality_live(const struct rule *rule, const struct box *box)
+{
+    const struct part *from = parts + rule->first, *end = parts + rule->end;
+    uint32_t open = rule->set; /* the values whose clauses are not settled */
+    uint64_t live = 0;
+
+    for (const struct part *part = from; part < end; part++) {
+        uint32_t room = box->rooms[part->position];
+
+        if (room == smallest_alone(room))
+            open &= ~room;
+    }
+    for (const struct part *part = from; part < end; part++) {
+        uint32_t room = box->rooms[part->position];
+
+        if ((room & open) || ((room & rule->set) && (room & ~rule->set)))
+            live |= (uint64_t)1 << part->position;
+    }
+    return live;
+}
+
+/* Step 4: the lowest position with two or more values that is live in some clause not settled, or v.
+   The rules before `rule` are settled. A rule that names no position lower than the one found so far
+   is passed over, and the scan ends where no lower one is left. */
+static uint32_t lowest_to_split(const struct rule *rule, const struct box *box)
+{
+    uint32_t lowest = v;
+    uint64_t wide = 0; /* bit i: position i has two or more values and is lower than `lowest` */
+
+    for (uint32_t i = 0; i < v; i++)
+        if (box->rooms[i] != smallest_alone(box->rooms[i]))
+            wide |= (uint64_t)1 << i;
+    for (; wide && rule < rules + rule_count; rule++) {
+        uint64_t live;
+
+        if (!(rule->named & wide))
+            continue;
+        live = wide & (rule->is_equality ? equality_live(rule, box) : clause_live(rule, box));
+        if (live) {
+            lowest = (uint32_t)__builtin_ctzll(live);
+            wide &= ((uint64_t)1 << lowest) - 1;
+        }
+    }
+    return lowest;
+}
+
+#ifdef YARDSTICK_COUNTS
+/* Counts a split, by the positions of two or more values that are lower than the one split. */
+static void count_passed_over(const struct box *box, uint32_t split)
+{
+    uint64_t passed = 0, named = 0, live = 0, named_in_open = 0, live_in_open = 0;
+
+    for (uint32_t i = 0; i < split; i++)
+        if (box->rooms[i] != smallest_alone(box->rooms[i]))
+            passed |= (uint64_t)1 << i;
+    for (const struct rule *rule = rules; rule < rules + rule_count; rule++) {
+        int open = !(rule->is_equality ? equality_settled(rule, box) : clause_settled(rule, box));
+
+        named |= rule->named;
+        if (open)
+            named_in_open |= rule->named;
+        for (const struct part *part = parts + rule->first; part < parts + rule->end; part++)
+            if (box->rooms[part->position] & part->set) {
+                live |= (uint64_t)1 << part->position;
+                if (open)
+                    live_in_open |= (uint64_t)1 << part->position;
+            }
+    }
+    yardstick_counts.splits++;
+    yardstick_counts.passed_over += passed != 0;
+    yardstick_counts.passed_unnamed += (passed & ~named) != 0;
+    yardstick_counts.passed_live += (passed & live & ~named_in_open) != 0;
+    yardstick_counts.passed_named += (passed & named_in_open & ~live_in_open) != 0;
+    yardstick_counts.passed_equality += (passed & live_in_open) != 0;
+}
+#endif
 
 /* Steps 1 to 4 for a box. Answers PLAN (with the values in `plan`), NONE, UNDECIDED or STALLED. */
 static int search(struct box box)
 {
+    const struct rule *unsettled;
     struct box first_half;
-    uint32_t split = 0;
+    uint32_t split;
     int answer;
 #ifdef YARDSTICK_COUNTS
     struct box before = box;
@@ -346,13 +449,13 @@ static int search(struct box box)
         dead_end_count++;
         return NONE;
     }
-    if (settled(&box)) {
+    unsettled = first_unsettled(&box);
+    if (unsettled == rules + rule_count) {
         for (uint32_t i = 0; i < v; i++)
             plan[i] = (uint8_t)(1 + __builtin_ctz(box.rooms[i]));
         return PLAN;
     }
-    while (split < v && box.rooms[split] == smallest_alone(box.rooms[split]))
-        split++;
+    split = lowest_to_split(unsettled, &box);
     if (split == v)
         return STALLED;
     if (split_count == allowed)
@@ -360,7 +463,8 @@ static int search(struct box box)
     split_count++;
 #ifdef YARDSTICK_COUNTS
     if (smallest_alone(before.rooms[split]) != smallest_alone(box.rooms[split]))
-        yardstick_splits_after_cut++;
+        yardstick_counts.splits_after_cut++;
+    count_passed_over(&box, split);
 #endif
     first_half = box;
     first_half.rooms[split] = smallest_alone(box.rooms[split]);

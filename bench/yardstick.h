@@ -1,5 +1,5 @@
-/* The yardstick: a planner in plain C, written from document 01 alone, to compare the proved planner
-   with, in what it answers and in how long it takes. Nothing of it is proved. */
+/* The yardstick: a planner in plain C, written from documents 01 and 02 (R-2) alone, to compare the
+   proved planner with, in what it answers and in how long it takes. Nothing of it is proved. */
 #ifndef YARDSTICK_H
 #define YARDSTICK_H
 
@@ -14,14 +14,26 @@ void yardstick_plan(const uint8_t *input, size_t input_len, uint8_t *answer, siz
                     uint64_t *dead_ends);
 
 #ifdef YARDSTICK_COUNTS
-/* Only in the agreement test, to show what its files reach, summed over all calls: */
-
-/* splits at a position whose smallest values were cut away in that same box */
-extern uint64_t yardstick_splits_after_cut;
-/* boxes that shrinking found dead only after it had cut a room of them */
-extern uint64_t yardstick_dead_after_cut;
-/* the largest number of rounds that shrinking one box took */
-extern uint64_t yardstick_most_rounds;
+/* Only in the agreement test, to show what its files reach, over all calls: */
+extern struct yardstick_counts {
+    /* splits at a position whose smallest values were cut away in that same box */
+    uint64_t splits_after_cut;
+    /* boxes that shrinking found dead only after it had cut a room of them */
+    uint64_t dead_after_cut;
+    /* the largest number of rounds that shrinking one box took */
+    uint64_t most_rounds;
+    /* all splits; those that passed over a lower position of two or more values; and of these, such
+       where a position that was passed over ... */
+    uint64_t splits, passed_over;
+    /* ... is named by no rule */
+    uint64_t passed_unnamed;
+    /* ... is live, and all rules that name it are settled */
+    uint64_t passed_live;
+    /* ... is named in a clause that is not settled, but is not live in it */
+    uint64_t passed_named;
+    /* ... is live in an equality that is not settled, but only in clauses of it that are */
+    uint64_t passed_equality;
+} yardstick_counts;
 #endif
 
 #endif

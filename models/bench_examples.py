@@ -1,11 +1,12 @@
-# Makes the stored output of `bench_examples`: 01's examples and the ceilings, with the replies of the model. 01's
-# "bytes from v on stay; all other replies write nothing" is the word `kept` at the end of each line. Behind the line
-# of a call stands what the program prints for the file.
+# Makes the stored output of `bench_examples`: 01's examples, files that tell readings of step 4 (02, R-2) apart, and the
+# ceilings, with the replies of the model. 01's "bytes from v on stay; all other replies write nothing" is the word
+# `kept` at the end of each line. Behind the line of a call stands what the program prints for the file.
 import scope
 from writing import clause, equality, field, header
 
 CASE_E = header(2, 2) + equality({1, 2}, 1, 2)
 CASE_H = header(3, 3) + equality({1, 2, 3}, 1, 2, 3)
+CASE_L = header(3, 2) + b''.join(clause((2, {x}), (3, {y})) for x in (1, 2) for y in (1, 2))
 # A file of 32,768 bytes: v 1, n 32, and 6552 atoms whose five bytes are all 1.
 LONGEST = header(1, 32) + field(2, bytes([1] * 5 * 6552))
 
@@ -31,7 +32,18 @@ show('h', CASE_H)
 show('i', CASE_H, 2)
 show('j', header(2, 3) + clause((1, {2, 3})) + clause((1, {1}), (2, {3})))
 show('k', header(2, 2) + clause((1, {1}), (2, {1})))
-show('l', header(3, 2) + b''.join(clause((2, {x}), (3, {y})) for x in (1, 2) for y in (1, 2)))
+show('l', CASE_L)
+
+# Step 4 (02, R-2): case l with no split allowed; files whose position 1 has two values or more and is not split, for the
+# reason in the name; and one whose lowest live position stands in the later clause.
+show('l-allowance-0', CASE_L, 0)
+show('own-set', header(3, 2) + clause((1, {1, 2})) + clause((2, {1}), (3, {1})))
+show('own-sets-united', header(3, 2) + clause((1, {1}), (1, {2}), (2, {1})) + clause((2, {2}), (3, {1})))
+show('settled-by-another', header(3, 3) + clause((2, {1, 2})) + clause((1, {1}), (2, {1, 2})) + clause((2, {1}), (3, {1})))
+show('named-and-not-live', header(3, 3) + clause((1, {2, 3})) + clause((1, {1}), (2, {1}), (3, {1})))
+show('values-settled', header(5, 3) + clause((1, {1, 2})) + clause((2, {1})) + clause((3, {2}))
+     + equality({1, 2, 3}, 1, 2, 3, 4, 5))
+show('later-clause', header(3, 2) + clause((2, {1}), (3, {1})) + clause((1, {2}), (2, {2})))
 
 # What is refused in a file, and what is not.
 show('empty-input', b'')

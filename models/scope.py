@@ -1,5 +1,5 @@
-# A model of document 01, written from its text alone: reading a rule file, what rules mean, the search step
-# for step, the reply, and what the program prints. A set is a Python set of the values in it.
+# A model of documents 01 and 02, written from their text alone: reading a rule file, what rules mean, the
+# search step for step, the reply, and what the program prints. A set is a Python set of the values in it.
 from collections import namedtuple
 
 # The ceilings.
@@ -218,14 +218,17 @@ def shrink(clauses, rooms):
     return rooms
 
 
-# Step 2: every clause has a position whose room lies inside its union.
-def settled(clauses, rooms):
-    return all(any(rooms[position] <= union for position, union in clause) for clause in clauses)
+# Step 2: the clauses not yet settled, those that have no position whose room lies inside its union. The box is
+# settled if there are none.
+def unsettled(clauses, rooms):
+    return [clause for clause in clauses if not any(rooms[position] <= union for position, union in clause)]
 
 
-# Step 4: the lowest-numbered position with two or more values in its room, or None.
-def split_position(rooms):
-    return next((position for position in sorted(rooms) if len(rooms[position]) >= 2), None)
+# Step 4, as R-2 has it: the lowest-numbered position with two or more values in its room that is live in some clause
+# of those left, which are not yet settled; or None.
+def split_position(left, rooms):
+    live = {position for clause in left for position, union in clause if not union.isdisjoint(rooms[position])}
+    return next((position for position in sorted(live) if len(rooms[position]) >= 2), None)
 
 
 # Step 4: the box with the smallest value alone in that room, and the box with the others.
@@ -246,9 +249,10 @@ def search(header, rules, allowance):
         if rooms is None:
             dead_ends += 1
             continue
-        if settled(clauses, rooms):
+        left = unsettled(clauses, rooms)
+        if not left:
             return Reply(PLAN, 0, splits, dead_ends, tuple(min(rooms[position]) for position in sorted(rooms)))
-        position = split_position(rooms)
+        position = split_position(left, rooms)
         if position is None:
             return Reply(STALLED, 0, splits, dead_ends, ())
         if splits == allowance:

@@ -1,5 +1,5 @@
-# Makes the expected output of `small_files` from 01's text alone: the same files by the same generator, and a
-# model of the refusals, of the meaning and of the search on Python's sets of values.
+# Makes the expected output of `small_files` from the text of 01 and of 02's R-2 alone: the same files by the same
+# generator, and a model of the refusals, of the meaning and of the search on Python's sets of values.
 #
 # Every call of the planner that the program makes is made here too, in the same order, and the number, the place,
 # the splits and the dead ends of each go into the checksum one by one. So the calls are compared one for one, and
@@ -137,7 +137,7 @@ def first(v, n, rules):
         if all(met(r, a) for r in rules): return a
     return None
 
-# ---- 01, "The search, step for step"
+# ---- 01, "The search, step for step", with step 4 as 02 has it (R-2)
 def clauses(rules):
     out = []
     for r in rules:
@@ -168,8 +168,9 @@ class Search:
                 if not live: self.dead += 1; return None
                 if len(live) == 1 and not rooms[live[0] - 1] <= u[live[0]]:
                     rooms[live[0] - 1] &= u[live[0]]; change = True
-        if all(any(rooms[p - 1] <= u[p] for p in u) for u in self.cs): return tuple(min(r) for r in rooms)
-        i = next((i for i, r in enumerate(rooms) if len(r) >= 2), None)
+        left = [u for u in self.cs if not any(rooms[p - 1] <= u[p] for p in u)]
+        if not left: return tuple(min(r) for r in rooms)
+        i = next((i for i, r in enumerate(rooms) if len(r) >= 2 and any(r & u.get(i + 1, set()) for u in left)), None)
         if i is None: raise Stop(21)
         if self.splits >= self.allowed: raise Stop(2)
         self.splits += 1

@@ -1,4 +1,5 @@
-// 01's starred cases, with its own letters. In a file of several fields each stands on a line.
+// 01's starred cases, with its own letters; the counts of l are those of 02 (R-2). In a file of several
+// fields each stands on a line.
 use super::line::show;
 
 // All of them, in this order.

@@ -25,16 +25,17 @@ use Rattle.clauses.proofs.FrontRooms.{meets-front, leaves-dead, leaves-
 
 -- ---- what a position's room shares with its sets
 
-shared-append : (box : List ℕ) (xs ys : List Atom) (q : ℕ) → sharedIn box (xs ++ ys) q ≡ union (sharedIn box xs q) (sharedIn box ys q)
+-- of two lists of atoms it shares what it shares with the one and with the other
+pub shared-append : (box : List ℕ) (xs ys : List Atom) (q : ℕ) → sharedIn box (xs ++ ys) q ≡ union (sharedIn box xs q) (sharedIn box ys q)
 shared-append box xs ys q = ap (common (roomAt box q)) (united-append q xs ys) ∙ common-union (roomAt box q) (united q xs) (united q ys)
 
 module _ (box : List ℕ) (a : Atom) where
   -- by one atom its own position's room shares what it shares with the atom's set
-  shared-here : (q : ℕ) → a .position ≡ q → sharedIn box (a ∷ []) q ≡ common (roomAt box (a .position)) (a .set)
+  pub shared-here : (q : ℕ) → a .position ≡ q → sharedIn box (a ∷ []) q ≡ common (roomAt box (a .position)) (a .set)
   shared-here q e = ap₂ common (ap (roomAt box) (sym e)) (united-one a q e)
 
   -- and another position's nothing
-  shared-elsewhere : (q : ℕ) → (a .position ≡ q → ⊥) → sharedIn box (a ∷ []) q ≡ 0
+  pub shared-elsewhere : (q : ℕ) → (a .position ≡ q → ⊥) → sharedIn box (a ∷ []) q ≡ 0
   unfolding united
   shared-elsewhere q ne = ap (common (roomAt box q)) (united-elsewhere a [] q ne) ∙ common-empty (roomAt box q)
 

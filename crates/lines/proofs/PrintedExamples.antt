@@ -6,13 +6,14 @@ use Prim.Native.String.{String}
 use native.Mathlib.Omega.{arith}
 use lib.ListN.{length, take, drop, replicate}
 use Rattle.sets.specs.Sets.{full, single, union, common, complement, inRange, onlyIf, isEmpty, inside, listedIf, valuesFrom, values, count, firstOf, smallest, beside, others}
+use Rattle.lists.specs.Lowest.{lowest}
 use Rattle.lists.specs.Lists.{Every}
 use Rattle.rules.specs.Writing.{placed, fieldsOf}
 use Rattle.rules.specs.Reading.{tagOf, lengthAt, setAt, atomOf, headOf, contentOf, atomsOf, ruleOf, lengthFits, tagFault, bodyFault, headerBodyFault, positionFault, setFault, atomFault, atomsFault, positionsFault, ruleFault, ruleAt, fieldFault, limitsFit, headerFault, sizeOf, readFields, reading}
 use Rattle.rules.specs.Parts.{atomIn, equalityParts, partsOf}
 use Rattle.steps.specs.Boxes.{roomAt, withRoom, startBox, openValues, smallestOf, firstHalf, otherHalf}
-use Rattle.steps.specs.Shrinking.{uniteIf, united, isLive, liveFrom, cut, lookBy, lookClause, settledBy, settledClause, inTurn, sameRooms, shrink, shrunk, allOf}
-use Rattle.steps.specs.Search.{chosen, search, searched}
+use Rattle.steps.specs.Shrinking.{uniteIf, united, isLive, liveFrom, cut, lookBy, lookClause, settledBy, settledClause, inTurn, sameRooms, shrink, shrunk, allOf, someOf}
+use Rattle.steps.specs.Search.{splittable, chosen, search, searched}
 use Rattle.steps.specs.Table.{startOf, planned, ofReading, replyOf}
 use Rattle.steps.specs.Reply.{Reply, refusal}
 use Rattle.steps.specs.Cases.{case, case-c, case-e, case-g}
@@ -48,7 +49,7 @@ prints input given line bytes e shown =
 -- cases e (01's own whole output), c (v and n differ) and g, and the empty input
 pub printed-cases :
     Prints (case-e .bytes) "PLAN 1 0\n1 2\n" × Prints (case-c .bytes) "PLAN 0 0\n1 1\n" × Prints (case-g .bytes) "NONE 1 2\n" × Prints [] "REFUSED 14 0\n"
-unfolding full single union common complement inRange onlyIf isEmpty inside listedIf valuesFrom values count firstOf smallest beside others tagOf lengthAt setAt atomOf headOf contentOf atomsOf ruleOf lengthFits tagFault bodyFault headerBodyFault positionFault setFault atomFault atomsFault positionsFault ruleFault ruleAt fieldFault limitsFit headerFault sizeOf readFields reading placed fieldsOf atomIn equalityParts partsOf roomAt withRoom startBox openValues smallestOf firstHalf otherHalf uniteIf united isLive liveFrom cut lookBy lookClause settledBy settledClause inTurn sameRooms shrink shrunk allOf chosen search searched startOf planned ofReading replyOf case case-c case-e case-g bytesOf digits decimal behind spaced newline firstLine textOf positionsOf
+unfolding full single union common complement inRange onlyIf isEmpty inside listedIf valuesFrom values count firstOf smallest beside others tagOf lengthAt setAt atomOf headOf contentOf atomsOf ruleOf lengthFits tagFault bodyFault headerBodyFault positionFault setFault atomFault atomsFault positionsFault ruleFault ruleAt fieldFault limitsFit headerFault sizeOf readFields reading placed fieldsOf atomIn equalityParts partsOf roomAt withRoom startBox openValues smallestOf firstHalf otherHalf uniteIf united isLive liveFrom cut lookBy lookClause settledBy settledClause inTurn sameRooms shrink shrunk allOf someOf lowest splittable chosen search searched startOf planned ofReading replyOf case case-c case-e case-g bytesOf digits decimal behind spaced newline firstLine textOf positionsOf
 printed-cases = (
   prints (case-e .bytes) (case-e .reply) "PLAN 1 0\n1 2\n" (omega arith) refl refl,
   prints (case-c .bytes) (case-c .reply) "PLAN 0 0\n1 1\n" (omega arith) refl refl,

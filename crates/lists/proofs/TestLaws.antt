@@ -58,3 +58,8 @@ eq-fails a b = (λ t e. T-not (eqb a b) t (eq-holds a b .1 e), λ f. not-T (eqb 
 pub either-holds : (b c : Bool) → T (b || c) ↔ (T b ⊎ T c)
 either-holds true c = (inl, λ s. tt)
 either-holds false c = (inr, ⊎-elim absurd (λ t. t))
+
+-- a test fails exactly if it is false
+pub fails-false : (b : Bool) → T (not b) ↔ (b ≡ false)
+fails-false true = (absurd, λ e. subst T e tt)
+fails-false false = (λ t. refl, λ e. tt)

@@ -1,6 +1,7 @@
 -- One turn of the search: what is known after shrinking, and what each end and each split of a box comes to. Assumes nothing.
 use mathlib.Core.Path.{_≡_, refl, sym, ap, _∙_, subst}
-use mathlib.Core.Bool.{true, false}
+use mathlib.Core.Logic.{_↔_}
+use mathlib.Core.Bool.{Bool, true, false}
 use mathlib.Core.List.{List, _++_}
 use Prim.Native.Nat.{ℕ, _+_, _-_, _^_, _≤_, _<_}
 use native.Mathlib.Omega.{arith}
@@ -18,11 +19,13 @@ use Rattle.steps.specs.Boxes.{openValues, BoxInside, Rooms, smallestOf, firstHa
 use Rattle.steps.specs.Shrinking.{Look, dead, alive, shrunk, settled}
 use Rattle.lists.specs.Buffer.{over}
 use Rattle.steps.specs.Reply as steps
-use Rattle.steps.specs.Reply.{ended, plan, none, undecided, stalled}
+use Rattle.steps.specs.Reply.{ended, plan, none, undecided}
 use Rattle.steps.specs.Search.{chosen, ifNone, searched}
 use Rattle.steps.proofs.Boxes.BoxLaws.{box-inside-length, box-inside-at, rooms-at}
-use Rattle.steps.proofs.Boxes.BoxSizes.{open-inside, chosen-two, first-half-rooms, other-half-rooms, first-half-falls, other-half-falls}
-use Rattle.steps.proofs.Looks.ShrinkLaws.{shrunk-inside}
+use Rattle.steps.proofs.Boxes.BoxSizes.{open-inside, first-half-rooms, other-half-rooms, first-half-falls, other-half-falls}
+use Rattle.steps.proofs.Looks.FittingRules.{FieldsFit}
+use Rattle.steps.proofs.Looks.ShrinkLaws.{shrunk-inside, shrunk-fixed}
+use Rattle.steps.proofs.Search.Chosen.{chosen-most, chosen-two, settled-exactly}
 use Rattle.boxes.specs.declared.shrink.Verdict.the-variants.{Alive, Dead}
 use Rattle.boxes.specs.declared.shrink.Shrunk.{Shrunk}
 use Rattle.boxes.specs.Rounds.{shrunkRooms}
@@ -62,6 +65,7 @@ pub record Given : Type 0 where
   pub small : v ≤ 64
   pub long : length rooms ≡ 64
   pub full : Rooms (take v rooms)
+  pub fits : FieldsFit v fields
 
 module _ (given : Given) where
   abbrev fields : List Field
@@ -117,27 +121,41 @@ module _ (given : Given) where
       (every-map (λ room. (room < 2 ^ 32) × (room ≡ 0 → ⊥)) (λ room. smallest room < 256) (take v saved) (λ room h. omega (arith, smallest-range room (h .0) (h .1) .1))
       (shrunk-inside fields box (take v saved) (given .full) (kept .shrank) .1)))
 
-  pub ends-settled : {saved : List ℕ} → Saved saved → settled fields (take v saved) ≡ true → {values after : List ℕ} → values ≡ smallestOf (take v saved) ++ replicate (64 - v) 0
-      → after ≡ over (take v values) (given .before) → {r : Reply} → r ≡ told (ended 0 s d) → Ends r after
-  unfolding smallestOf
-  ends-settled {saved} kept t {values} {after} e m q =
-      let long : length (smallestOf (take v saved)) ≡ v = length-map (take v saved) smallest ∙ kept .length-v in
-      let front : take v values ≡ smallestOf (take v saved) = ap (take v) e ∙ take-at (smallestOf (take v saved)) (replicate (64 - v) 0) v long in
-      answers {given = plan (smallestOf (take v saved)) s d} (searched-equation fields box (given .full) allowed s d ∙ rw (kept .shrank, t) refl)
-      (record { reply = q; memory = m ∙ ap (λ (xs : List ℕ). over xs (given .before)) front })
+  -- a shrunk box in which no room is left to split is settled
+  module _ {saved : List ℕ} (kept : Saved saved) (i : ℕ) (at : i ≡ chosen fields (take v saved)) where
+    shrank-inside : BoxInside (take v saved) box × Rooms (take v saved)
+    shrank-inside = shrunk-inside fields box (take v saved) (given .full) (kept .shrank)
 
-  pub ends-stalled : {saved : List ℕ} → Saved saved → settled fields (take v saved) ≡ false → (i : ℕ) → i ≡ chosen (take v saved) → v ≤ i
-      → {r : Reply} → r ≡ told (stalled s d) → Ends r (given .before)
-  ends-stalled {saved} kept u i e l q =
-      let same = kept .length-v in
-      answers (searched-equation fields box (given .full) allowed s d ∙ rw (kept .shrank, u, le-leb (length (take v saved)) (chosen (take v saved)) (omega arith)) refl) (nothing-written q refl)
+    exactly : (settled fields (take v saved) ≡ true) ↔ (chosen fields (take v saved) ≡ length (take v saved))
+    exactly =
+        settled-exactly fields (take v saved) (shrank-inside .1) (subst (λ (k : ℕ). FieldsFit k fields) (sym (kept .length-v)) (given .fits))
+        (shrunk-fixed fields box (take v saved) (given .full) (kept .shrank))
+
+    is-settled : v ≤ i → settled fields (take v saved) ≡ true
+    is-settled l = exactly .1 (omega (arith, at, kept .length-v, chosen-most fields (take v saved)))
+
+    -- and one with such a room is not
+    is-open : i < v → settled fields (take v saved) ≡ false
+    is-open l = go (settled fields (take v saved)) refl
+      where
+        go : (b : Bool) → settled fields (take v saved) ≡ b → settled fields (take v saved) ≡ false
+        go true e = absurd (omega (arith, at, kept .length-v, exactly .0 e))
+        go false e = e
+
+    pub ends-settled : v ≤ i → {values after : List ℕ} → values ≡ smallestOf (take v saved) ++ replicate (64 - v) 0
+        → after ≡ over (take v values) (given .before) → {r : Reply} → r ≡ told (ended 0 s d) → Ends r after
+    unfolding smallestOf
+    ends-settled l {values} {after} e m q =
+        let long : length (smallestOf (take v saved)) ≡ v = length-map (take v saved) smallest ∙ kept .length-v in
+        let front : take v values ≡ smallestOf (take v saved) = ap (take v) e ∙ take-at (smallestOf (take v saved)) (replicate (64 - v) 0) v long in
+        answers {given = plan (smallestOf (take v saved)) s d} (searched-equation fields box (given .full) allowed s d ∙ rw (kept .shrank, is-settled l) refl)
+        (record { reply = q; memory = m ∙ ap (λ (xs : List ℕ). over xs (given .before)) front })
 
   -- ---- a box that is split at an index
 
   pub record Split (saved : List ℕ) (i : ℕ) : Type 0 where
     pub kept : Saved saved
-    pub unsettled : settled fields (take v saved) ≡ false
-    pub at : i ≡ chosen (take v saved)
+    pub at : i ≡ chosen fields (take v saved)
     pub there : i < v
 
   module _ {saved : List ℕ} {i : ℕ} (split : Split saved i) where
@@ -151,16 +169,19 @@ module _ (given : Given) where
     abbrev later : ℕ → ℕ → steps.Reply
     later = searched fields allowed (otherHalf i inner)
 
-    divided : leb (length inner) (chosen inner) ≡ false
-    divided = lt-leb (length inner) (chosen inner) (omega (arith, split .kept .length-v, split .at, split .there))
+    unsettled : settled fields inner ≡ false
+    unsettled = is-open (split .kept) i (split .at) (split .there)
+
+    divided : leb (length inner) (chosen fields inner) ≡ false
+    divided = lt-leb (length inner) (chosen fields inner) (omega (arith, split .kept .length-v, split .at, split .there))
 
     pub ends-undecided : allowed ≤ s → {r : Reply} → r ≡ told (undecided s d) → Ends r (given .before)
     ends-undecided l q =
-        answers (searched-equation fields box (given .full) allowed s d ∙ rw (split .kept .shrank, split .unsettled, divided, le-leb allowed s l) refl) (nothing-written q refl)
+        answers (searched-equation fields box (given .full) allowed s d ∙ rw (split .kept .shrank, unsettled, divided, le-leb allowed s l) refl) (nothing-written q refl)
 
     -- with splits left it is the first half's reply, and after NONE the other half's
     whole : s < allowed → searched fields allowed box s d ≡ ifNone begun later
-    whole l = searched-equation fields box (given .full) allowed s d ∙ rw (split .kept .shrank, split .unsettled, divided, lt-leb allowed s l, split .at) refl
+    whole l = searched-equation fields box (given .full) allowed s d ∙ rw (split .kept .shrank, unsettled, divided, lt-leb allowed s l, split .at) refl
 
     -- the saved rooms lie inside those given, and the index is that of a room with two or more values
     pub saved-shrank : BoxInside inner box × Rooms inner
@@ -170,7 +191,7 @@ module _ (given : Given) where
     inside = omega (arith, split .kept .length-v, split .there)
 
     wide : 2 ≤ count (getD inner i 0)
-    wide = subst (λ (j : ℕ). 2 ≤ count (getD inner j 0)) (sym (split .at)) (chosen-two inner (omega (arith, split .at, inside)))
+    wide = subst (λ (j : ℕ). 2 ≤ count (getD inner j 0)) (sym (split .at)) (chosen-two fields inner (omega (arith, split .at, inside)))
 
     -- ---- the halves in code: the first v rooms of each are the half of the box
 

@@ -18,8 +18,6 @@ impl Reply {
 
     pub const UNDECIDED: u32 = 2;
 
-    pub const STALLED: u32 = 21;
-
     // The reply at the end of a search: its place is 0.
     pub fn ended(number: u32, splits: u64, dead_ends: u64) -> Reply
         ensures { λ r. ⌜ Ends number splits «dead_ends» r ⌝ }

@@ -12,12 +12,11 @@ ghost use Rattle.searching.specs.Promise.{Searches};
 use super::reply::Reply;
 use boxes::shrink::Verdict;
 use boxes::shrink::shrink;
+use choosing::choose::choose;
 use sets::Room;
-use settling::settle::settled;
-use splitting::choose::choose;
-use splitting::choose::first_half;
-use splitting::choose::other_half;
-use splitting::choose::smallest_values;
+use splitting::halves::first_half;
+use splitting::halves::other_half;
+use splitting::halves::smallest_values;
 
 // Writes the first v values to the front of the buffer.
 fn write_values(answer: &mut [u8], values: &[u32; Room::POSITIONS], v: usize)
@@ -34,9 +33,9 @@ fn write_values(answer: &mut [u8], values: &[u32; Room::POSITIONS], v: usize)
 }
 
 // The search of the box of the first v rooms under the rules of a sound file, with the splits and
-// the dead ends so far: shrink; a dead box is a dead end; a settled one gives the smallest value of
-// each room, which goes to the buffer; any other is split, and its halves are searched, the second
-// with the rooms as they were saved before the split.
+// the dead ends so far: shrink; a dead box is a dead end; a settled one, in which no room is left to
+// split, gives the smallest value of each room, which goes to the buffer; any other is split, and its
+// halves are searched, the second with the rooms as they were saved before the split.
 pub fn search(
     input: &[u8],
     v: usize,
@@ -55,14 +54,12 @@ pub fn search(
     if let Verdict::Dead(_) = verdict {
         return Reply::ended(Reply::NONE, splits, dead_ends + 1);
     }
-    if settled(input, v, &saved) {
+    let i = choose(input, v, &saved);
+    if v <= i {
+        // Nothing is left to cut and nothing to split: the box is settled.
         let values = smallest_values(&saved, v);
         write_values(answer, &values, v);
         return Reply::ended(Reply::PLAN, splits, dead_ends);
-    }
-    let i = choose(&saved, v);
-    if v <= i {
-        return Reply::ended(Reply::STALLED, splits, dead_ends);
     }
     if allowed <= splits {
         return Reply::ended(Reply::UNDECIDED, splits, dead_ends);

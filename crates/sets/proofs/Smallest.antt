@@ -1,21 +1,22 @@
 -- Laws of the smallest value of a set, and of a set without it. Assumes nothing.
 use mathlib.Core.Path.{_≡_, refl, sym, ap, ap₂, _∙_, subst}
 use mathlib.Core.Logic.{_↔_, _⊎_, inl, inr, ⊎-elim}
+use mathlib.Core.Bool.{not}
 use mathlib.Core.List.{List, [], _∷_, List·Memᴰ, List·Memᴰ·head, List·Memᴰ·tail, List·Memᴰ·not-nil, List·Memᴰ·cases-cons}
 use Prim.Native.Nat.{ℕ, zero, suc, _+_, _/_, _%_, _^_, _≤_, _<_}
 use native.Mathlib.Nat.{mod-lt, zero-lt-suc, add-suc, suc-add, add-zero, div-add-mod'}
-use native.Mathlib.Decide.{ℕ-discrete}
+use native.Mathlib.Decide.{decLe, ℕ-discrete}
 use native.Mathlib.Numerals.{lt-of-le-of-ne}
 use native.Mathlib.Omega.{arith}
 use lib.Arith.{lt-one}
 use lib.Count.{trailingZeros, under}
-use lib.Dec.{T}
-use Rattle.sets.specs.Sets.{member, single, common, complement, inside, listedIf, valuesFrom, values, rising, count, firstOf, smallest, beside, others}
+use lib.Dec.{T, T-not, not-T}
+use Rattle.sets.specs.Sets.{member, single, common, complement, isEmpty, inside, listedIf, valuesFrom, values, rising, count, firstOf, smallest, beside, others}
 use Rattle.sets.proofs.Digits.{half-below}
-use Rattle.sets.proofs.Members.{member-range, member-empty, member-single}
-use Rattle.sets.proofs.Sameness.{single-below, inside-iff}
+use Rattle.sets.proofs.Members.{member-range, member-empty, member-common, member-single}
+use Rattle.sets.proofs.Sameness.{single-below, empty-test, inside-iff}
 use Rattle.sets.proofs.Values.{values-step, member-of-listed, listed-of-member, values-rising, rising-above}
-use Rattle.sets.proofs.Counting.{beside-below, member-beside, count-of-single, count-zero, count-positive, count-falls, count-part}
+use Rattle.sets.proofs.Counting.{beside-below, member-beside, count-not-empty, count-of-single, count-zero, count-positive, count-falls, count-part}
 
 two-pos : zero < 2
 two-pos = zero-lt-suc 1
@@ -210,3 +211,34 @@ values-others m h ne = rising-extensional 0 (values m) (smallest m ∷ values (o
 pub values-of-empty : values 0 ≡ []
 unfolding values valuesFrom
 values-of-empty = refl
+
+-- ---- two sets that share a value
+
+-- the common part of two sets is not empty exactly if they share a value
+pub common-shared : (a b : ℕ) → common a b < 2 ^ 32 → T (not (isEmpty (common a b))) ↔ ((x : ℕ) × member x a × member x b)
+common-shared a b h = (forth, back)
+  where
+    both : ℕ
+    both = common a b
+
+    forth : T (not (isEmpty both)) → (x : ℕ) × member x a × member x b
+    forth t =
+        let least = member-common (smallest both) a b .0 (smallest-member both h (λ e. T-not (isEmpty both) t (empty-test both .1 e))) in
+        (smallest both, least .0, least .1)
+
+    back : (x : ℕ) × member x a × member x b → T (not (isEmpty both))
+    back (x, t, u) = not-T (isEmpty both) (λ e. member-empty x (subst (λ (m : ℕ). member x m) (empty-test both .0 e) (member-common x a b .1 (t, u))))
+
+-- a set that shares a value with another and does not lie inside it has two or more values
+pub partly-inside-two : (a b x : ℕ) → a < 2 ^ 32 → member x a → member x b → (T (inside a b) → ⊥) → 2 ≤ count a
+partly-inside-two a b x h t u outside = go (decLe 2 (count a))
+  where
+    go : Dec (2 ≤ count a) → 2 ≤ count a
+    go (yes two) = two
+    go (no one) = absurd (outside (inside-iff a b .1 (λ y v. subst (λ (z : ℕ). member z b) (count-one-member a x y h (omega arith) t v) u)))
+
+-- the smallest value of one value alone is that value
+pub smallest-of-single : (x : ℕ) → 1 ≤ x → x ≤ 32 → smallest (single x) ≡ x
+smallest-of-single x low high =
+    let some = count-not-empty (single x) (omega (arith, count-of-single x low high)) in
+    member-single x (smallest (single x)) .0 (smallest-member (single x) (single-below x) some) .2

@@ -3,10 +3,7 @@ use mathlib.Core.Path.{_≡_}
 use mathlib.Core.List.{List}
 use Prim.Native.Nat.{ℕ}
 use Rattle.sets.proofs.Unique.{one-result}
-use Rattle.splitting.specs.Promise.{Chooses, FirstHalf, OtherHalf, SmallestValues}
-
-pub choose-unique : (rooms : List ℕ) (v : ℕ) {r s : ℕ} → Chooses rooms v r → Chooses rooms v s → r ≡ s
-choose-unique rooms v p q = one-result p q
+use Rattle.splitting.specs.Promise.{FirstHalf, OtherHalf, SmallestValues}
 
 pub first-half-unique : (rooms : List ℕ) (i : ℕ) {r s : List ℕ} → FirstHalf rooms i r → FirstHalf rooms i s → r ≡ s
 first-half-unique rooms i p q = one-result p q

@@ -4,11 +4,6 @@ use mathlib.Core.List.{List, _++_}
 use Prim.Native.Nat.{ℕ, _-_}
 use lib.ListN.{take, replicate}
 use Rattle.steps.specs.Boxes.{firstHalf, otherHalf, smallestOf}
-use Rattle.steps.specs.Search.{chosen}
-
--- `choose`: the index of the first of the v rooms with two or more values; v where there is none
-abbrev pub Chooses : List ℕ → ℕ → ℕ → Type 0
-Chooses rooms v r = r ≡ chosen (take v rooms)
 
 -- `first_half`: the rooms with the smallest value alone in the room at an index
 abbrev pub FirstHalf : List ℕ → ℕ → List ℕ → Type 0

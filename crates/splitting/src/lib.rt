@@ -1,5 +1,5 @@
-// Where to split a box of rooms, its two halves, and the values of a plan.
+// The two halves of a box of rooms that is split, and the values of a plan.
 //
 // The rooms of positions 1 to v are the first v masks of an array of 64; the others play no part
 // and stay as they are.
-pub mod choose;
+pub mod halves;

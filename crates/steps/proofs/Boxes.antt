@@ -1,2 +1,3 @@
 pub mod BoxLaws
 pub mod BoxSizes
+pub mod Lowered

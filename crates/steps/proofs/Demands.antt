@@ -8,16 +8,14 @@ use lib.Dec.{T}
 use lib.ListN.{length, getD}
 use Rattle.rules.specs.Rules.{File}
 use Rattle.rules.specs.Meaning.{Plan, FirstPlan}
-use Rattle.rules.specs.Writing.{fieldsOf, RuleFits, Within}
-use Rattle.lists.proofs.ListLaws.{every-map}
-use Rattle.rules.proofs.Writing.PlaceLaws.{every-field, meets-placed}
+use Rattle.rules.specs.Writing.{fieldsOf, Within}
+use Rattle.rules.proofs.Writing.PlaceLaws.{meets-placed}
 use Rattle.steps.specs.Boxes.{boxSize}
 use Rattle.steps.specs.Search.{explored}
 use Rattle.steps.specs.Special.{special, specialRules}
 use Rattle.steps.specs.Table.{startOf, planned, needed}
 use Rattle.steps.proofs.Boxes.BoxSizes.{start-assignments, start-rooms, start-length, start-size}
-use Rattle.steps.proofs.Looks.FittingRules.{Fits, rule-fits}
-use Rattle.steps.proofs.Looks.ShrinkLaws.{FieldsFit}
+use Rattle.steps.proofs.Looks.FittingRules.{FieldsFit, fields-fit}
 use Rattle.steps.proofs.Search.Allowance as allowance
 use Rattle.steps.proofs.Search.Bounds.{depth}
 use Rattle.steps.proofs.Search.Bounds as bounds
@@ -45,8 +43,7 @@ module _ (file : File) (within : Within file) where
   unfolding startOf
   start = record {
     rooms = start-rooms (file .v) (file .n) (within .values .0) (within .values .1);
-    fits = subst (λ (v : ℕ). FieldsFit v (fieldsOf file)) (sym (start-positions file))
-        (every-field (Fits (file .v)) file .0 (every-map (RuleFits (file .v) (file .n)) (Fits (file .v)) (file .rules) (rule-fits (file .v) (file .n)) (within .rules)));
+    fits = subst (λ (v : ℕ). FieldsFit v (fieldsOf file)) (sym (start-positions file)) (fields-fit file within);
     plans = λ a. let same = start-assignments (file .v) (file .n) a (within .values .1) in let met = meets-placed a file in (λ p. (same .1 (p .0), met .1 (p .1)), λ p. (same .0 (p .0), met .0 (p .1)));
   }
 

@@ -4,3 +4,4 @@ pub mod Looks
 pub mod Search
 pub mod Special
 pub mod StarredCases
+pub mod Step4Examples

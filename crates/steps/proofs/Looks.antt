@@ -1,7 +1,9 @@
 pub mod ClauseLaws
 pub mod FittingRules
+pub mod Idle
 pub mod InTurn
 pub mod LiveLaws
+pub mod LiveTests
 pub mod OrderOfCutting
 pub mod PartLaws
 pub mod RuleLaws

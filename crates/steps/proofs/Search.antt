@@ -1,7 +1,9 @@
 pub mod Allowance
 pub mod Bounds
+pub mod Chosen
 pub mod Counts
 pub mod Decided
+pub mod OldStep
 pub mod Says
 pub mod Special
 pub mod Split

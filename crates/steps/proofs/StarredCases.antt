@@ -2,12 +2,13 @@
 use mathlib.Core.Path.{_≡_, refl}
 use Rattle.sets.specs.Sets.{full, single, union, common, complement, inRange, onlyIf, isEmpty, inside, listedIf, valuesFrom, values, count, firstOf, smallest, beside, others}
 use Rattle.lists.specs.Lists.{Every}
+use Rattle.lists.specs.Lowest.{lowest}
 use Rattle.rules.specs.Writing.{placed, fieldsOf}
 use Rattle.rules.specs.Reading.{tagOf, lengthAt, setAt, atomOf, headOf, contentOf, atomsOf, ruleOf, lengthFits, tagFault, bodyFault, headerBodyFault, positionFault, setFault, atomFault, atomsFault, positionsFault, ruleFault, ruleAt, fieldFault, limitsFit, headerFault, sizeOf, readFields, reading}
 use Rattle.rules.specs.Parts.{atomIn, equalityParts, partsOf}
 use Rattle.steps.specs.Boxes.{roomAt, withRoom, startBox, openValues, smallestOf, firstHalf, otherHalf}
-use Rattle.steps.specs.Shrinking.{uniteIf, united, isLive, liveFrom, cut, lookBy, lookClause, settledBy, settledClause, inTurn, sameRooms, shrink, shrunk, allOf}
-use Rattle.steps.specs.Search.{chosen, search, searched}
+use Rattle.steps.specs.Shrinking.{uniteIf, united, isLive, liveFrom, cut, lookBy, lookClause, settledBy, settledClause, inTurn, sameRooms, shrink, shrunk, allOf, someOf}
+use Rattle.steps.specs.Search.{splittable, chosen, search, searched}
 use Rattle.steps.specs.Table.{startOf, planned, ofReading, replyOf}
 use Rattle.steps.specs.Cases.{Case, case, starred, case-a, case-b, case-c, case-d, case-e, case-f, case-g, case-h, case-i, case-j, case-k, case-l}
 
@@ -17,5 +18,5 @@ Holds c = replyOf (c .bytes) 64 (c .allowed) ≡ c .reply
 
 -- each of the twelve
 pub starred-hold : Every Holds starred
-unfolding full single union common complement inRange onlyIf isEmpty inside listedIf valuesFrom values count firstOf smallest beside others tagOf lengthAt setAt atomOf headOf contentOf atomsOf ruleOf lengthFits tagFault bodyFault headerBodyFault positionFault setFault atomFault atomsFault positionsFault ruleFault ruleAt fieldFault limitsFit headerFault sizeOf readFields reading placed fieldsOf atomIn equalityParts partsOf roomAt withRoom startBox openValues smallestOf firstHalf otherHalf uniteIf united isLive liveFrom cut lookBy lookClause settledBy settledClause inTurn sameRooms shrink shrunk allOf chosen search searched startOf planned ofReading replyOf case starred case-a case-b case-c case-d case-e case-f case-g case-h case-i case-j case-k case-l
+unfolding full single union common complement inRange onlyIf isEmpty inside listedIf valuesFrom values count firstOf smallest beside others tagOf lengthAt setAt atomOf headOf contentOf atomsOf ruleOf lengthFits tagFault bodyFault headerBodyFault positionFault setFault atomFault atomsFault positionsFault ruleFault ruleAt fieldFault limitsFit headerFault sizeOf readFields reading placed fieldsOf atomIn equalityParts partsOf roomAt withRoom startBox openValues smallestOf firstHalf otherHalf uniteIf united isLive liveFrom cut lookBy lookClause settledBy settledClause inTurn sameRooms shrink shrunk allOf someOf lowest splittable chosen search searched startOf planned ofReading replyOf case starred case-a case-b case-c case-d case-e case-f case-g case-h case-i case-j case-k case-l
 starred-hold = (refl, (refl, (refl, (refl, (refl, (refl, (refl, (refl, (refl, (refl, (refl, (refl, tt))))))))))))

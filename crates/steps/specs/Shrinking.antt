@@ -1,4 +1,4 @@
--- Steps 1 and 2 of the search: looking at the parts of rules, shrinking, and when a box is settled. Assumes nothing.
+-- Steps 1 and 2 of the search: looking at the parts of rules, shrinking, when a box is settled, and what is live in what is not. Assumes nothing.
 use Prim.Native.Nat.{ℕ, zero, suc, _+_}
 use mathlib.Core.Bool.{Bool, true, false, not, _&&_, _||_}
 use mathlib.Core.List.{List, [], _∷_}
@@ -146,3 +146,26 @@ settledRule box rule = settledParts box (partsOf rule)
 -- the rule of every field is settled
 abbrev pub settled : List Field → List ℕ → Bool
 settled fields box = allOf (λ f. settledRule box (f .rule)) fields
+
+-- ---- live in what is not settled
+
+-- whether some of a list pass the test
+unfoldable pub someOf : {A : Type 0} → (A → Bool) → List A → Bool
+someOf test [] = false
+someOf test (x ∷ xs) = test x || someOf test xs
+
+-- whether the position is live in the part, which is not settled
+abbrev pub liveUnsettled : List ℕ → ℕ → Part → Bool
+liveUnsettled box p part = isLiveIn part p (roomAt box p) && not (settledPart box part)
+
+-- whether it is live in some of the parts that is not settled
+abbrev pub liveInParts : List ℕ → ℕ → List Part → Bool
+liveInParts box p parts = someOf (liveUnsettled box p) parts
+
+-- in some part of the rule that is not settled
+abbrev pub liveInRule : List ℕ → ℕ → Rule → Bool
+liveInRule box p rule = liveInParts box p (partsOf rule)
+
+-- in some part of a field's rule that is not settled
+abbrev pub liveInFields : List Field → List ℕ → ℕ → Bool
+liveInFields fields box p = someOf (λ f. liveInRule box p (f .rule)) fields

@@ -1,25 +1,24 @@
 -- Laws of the number of open values and the number of assignments of a box, and of its two halves. Assumes nothing.
-use mathlib.Core.Path.{_≡_, refl, sym, ap, ap₂, _∙_, subst}
+use mathlib.Core.Path.{_≡_, refl, sym, ap, ap₂, _∙_}
 use mathlib.Core.Logic.{_↔_, _⊎_, inl, inr, ⊎-elim, ⊎-map}
-use mathlib.Core.Bool.{Bool, true, false, not}
+use mathlib.Core.Bool.{not}
 use mathlib.Core.List.{List, [], _∷_}
 use Prim.Native.Nat.{ℕ, zero, suc, _+_, _*_, _^_, _≤_, _<_}
 use native.Mathlib.Nat.{le-refl, add-mul, mul-add, mul-le-mul, mul-pos, pow-zero, pow-succ'}
-use native.Mathlib.Numerals.{add-one, lt-of-le-of-ne}
+use native.Mathlib.Numerals.{lt-of-le-of-ne}
 use native.Mathlib.Decide.{ℕ-discrete}
 use native.Mathlib.Omega.{arith}
-use lib.Dec.{T, leb, leb→le, nleb→lt}
+use lib.Dec.{T}
 use lib.ListN.{length, getD, set, length-replicate}
 use lib.Seq.{getD-set-same}
-use Rattle.sets.specs.Sets.{member, full, single, inside, count, smallest, others}
+use Rattle.sets.specs.Sets.{full, single, inside, count, smallest, others}
 use Rattle.sets.proofs.Members.{member-full, member-single}
 use Rattle.sets.proofs.Sameness.{full-below, single-below}
 use Rattle.sets.proofs.Counting.{count-positive, count-not-empty, count-of-single, count-of-full, count-inside, count-falls}
-use Rattle.sets.proofs.Smallest.{smallest-least, smallest-member, smallest-range, single-inside, count-one, count-one-member}
-use Rattle.sets.proofs.Smallest.{others-below, member-others, others-inside, others-above, count-others}
+use Rattle.sets.proofs.Smallest.{smallest-least, smallest-member, smallest-range, single-inside}
+use Rattle.sets.proofs.Smallest.{others-below, member-others, others-inside, count-others}
 use Rattle.rules.specs.Meaning.{Assignment, Before}
 use Rattle.steps.specs.Boxes.{startBox, openValues, boxSize, InBox, BoxInside, Rooms, smallestOf, firstHalf, otherHalf}
-use Rattle.steps.specs.Search.{chosen}
 use Rattle.steps.proofs.Boxes.BoxLaws.{in-box-at, in-box-set, set-inside, rooms-at, rooms-set}
 
 -- ---- one box inside another
@@ -60,37 +59,6 @@ unfolding boxSize
 size-positive [] h = le-refl 1
 size-positive (r ∷ b) h = mul-pos (count-positive r (h .0 .0) (h .0 .1)) (size-positive b (h .1))
 
--- ---- the room to split
-
--- what holds of the first room where that has two or more values, and else of the one chosen behind it, holds of the chosen room
-chosen-by : (room : ℕ) (box : List ℕ) (P : ℕ → Type 0) → (2 ≤ count room → P 0) → (count room < 2 → P (suc (chosen box))) → P (chosen (room ∷ box))
-unfolding chosen
-chosen-by room box P first later = go (leb 2 (count room)) refl
-  where
-    go : (b : Bool) → leb 2 (count room) ≡ b → P (elim b [ true ↦ 0 | false ↦ chosen box + 1 ])
-    go true e = first (leb→le 2 (count room) (subst T (sym e) tt))
-    go false e = subst P (sym (add-one (chosen box))) (later (nleb→lt 2 (count room) (subst (λ (b : Bool). T (not b)) (sym e) tt)))
-
--- the chosen index is that of a room, or the number of rooms
-pub chosen-most : (box : List ℕ) → chosen box ≤ length box
-unfolding chosen
-chosen-most [] = le-refl 0
-chosen-most (room ∷ box) = let rest = chosen-most box in chosen-by room box (λ k. k ≤ suc (length box)) (λ two. omega arith) (λ one. omega arith)
-
--- the chosen room has two or more values
-pub chosen-two : (box : List ℕ) → chosen box < length box → 2 ≤ count (getD box (chosen box) 0)
-chosen-two [] h = absurd (omega arith)
-chosen-two (room ∷ box) h =
-    chosen-by room box (λ k. k < suc (length box) → 2 ≤ count (getD (room ∷ box) k 0)) (λ two l. two) (λ one l. chosen-two box (omega arith)) h
-
--- every room before it has one value
-pub chosen-before : (box : List ℕ) (i : ℕ) → i < chosen box → count (getD box i 0) < 2
-unfolding chosen
-chosen-before [] i h = absurd (omega arith)
-chosen-before (room ∷ box) zero h = chosen-by room box (λ k. 0 < k → count room < 2) (λ two l. absurd (omega arith)) (λ one l. one) h
-chosen-before (room ∷ box) (suc i) h =
-    chosen-by room box (λ k. suc i < k → count (getD box i 0) < 2) (λ two l. absurd (omega arith)) (λ one l. chosen-before box i (omega arith)) h
-
 -- ---- a room cut, and a room cut in two ways
 
 -- the number of open values falls where a room loses values
@@ -111,20 +79,6 @@ parts-sizes [] i r s there e = absurd (omega arith)
 parts-sizes (room ∷ box) zero r s there e = sym (add-mul (count r) (count s) (boxSize box)) ∙ ap (λ (k : ℕ). k * boxSize box) e
 parts-sizes (room ∷ box) (suc i) r s there e =
     sym (mul-add (count room) (boxSize (set box i r)) (boxSize (set box i s))) ∙ ap (λ (k : ℕ). count room * k) (parts-sizes box i r s (omega arith) e)
-
--- where the rooms before are single and the values of r come before those of s, so do the assignments
-parts-in-order : (box : List ℕ) (i r s : ℕ) → Rooms box → i < length box → ((j : ℕ) → j < i → count (getD box j 0) < 2)
-    → ((x y : ℕ) → member x r → member y s → x < y) → (a b : List ℕ) → InBox a (set box i r) → InBox b (set box i s) → Before a b
-parts-in-order [] i r s rooms there one below a b h g = absurd (omega arith)
-parts-in-order (room ∷ box) zero r s rooms there one below [] b h g = absurd h
-parts-in-order (room ∷ box) zero r s rooms there one below (x ∷ a) [] h g = absurd g
-parts-in-order (room ∷ box) zero r s rooms there one below (x ∷ a) (y ∷ b) h g = inl (below x y (h .0) (g .0))
-parts-in-order (room ∷ box) (suc i) r s rooms there one below [] b h g = absurd h
-parts-in-order (room ∷ box) (suc i) r s rooms there one below (x ∷ a) [] h g = absurd g
-parts-in-order (room ∷ box) (suc i) r s rooms there one below (x ∷ a) (y ∷ b) h g = inr (
-  count-one-member room x y (rooms .0 .0) (one 0 (omega arith)) (h .0) (g .0),
-  parts-in-order box i r s (rooms .1) (omega arith) (λ j l. one (suc j) (omega arith)) below a b (h .1) (g .1),
-)
 
 -- ---- the two halves, at a room of two or more values
 
@@ -200,17 +154,6 @@ module _ (box : List ℕ) (i : ℕ) (rooms : Rooms box) (there : i < length box)
   pub half-sizes : boxSize (firstHalf i box) + boxSize (otherHalf i box) ≡ boxSize box
   unfolding firstHalf otherHalf
   half-sizes = parts-sizes box i (firstPart i box) (otherPart i box) there (omega (arith, first-count, other-count))
-
-  -- where the rooms before are single, the first half comes wholly before the other
-  pub halves-in-order : ((j : ℕ) → j < i → count (getD box j 0) < 2) → (a b : List ℕ) → InBox a (firstHalf i box) → InBox b (otherHalf i box) → Before a b
-  unfolding firstHalf otherHalf
-  halves-in-order one = parts-in-order box i (firstPart i box) (otherPart i box) rooms there one below
-    where
-      below : (x y : ℕ) → member x (firstPart i box) → member y (otherPart i box) → x < y
-      below x y t u =
-          let e : x ≡ least i box = member-single (least i box) x .0 t .2 in
-          let l : least i box < y = others-above (getD box i 0) y mask some u in
-          omega arith
 
 -- ---- the smallest values, and the start
 

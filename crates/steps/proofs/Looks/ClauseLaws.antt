@@ -4,13 +4,12 @@ use mathlib.Core.Logic.{_↔_, Iff·rfl, Iff·trans}
 use mathlib.Core.Bool.{false}
 use mathlib.Core.List.{List, [], _∷_, List·Memᴰ, List·Memᴰ·head, List·Memᴰ·tail, List·Memᴰ·not-nil, List·Memᴰ·eq-of-singleton}
 use Prim.Native.Nat.{ℕ, _+_, _-_, _^_, _≤_, _<_}
-use native.Mathlib.Decide.{decLe}
 use native.Mathlib.Omega.{arith}
 use lib.Dec.{T}
 use lib.ListN.{length, getD, set}
 use Rattle.sets.specs.Sets.{member, inside, count, rising}
 use Rattle.sets.proofs.Sameness.{inside-iff}
-use Rattle.sets.proofs.Smallest.{count-one, count-one-member}
+use Rattle.sets.proofs.Smallest.{partly-inside-two}
 use Rattle.lists.proofs.TestLaws.{either-holds}
 use Rattle.rules.specs.declared.field.Atom.{Atom}
 use Rattle.lists.specs.Lists.{Some, Every}
@@ -90,7 +89,7 @@ alive-live place atoms box box′ e = go (clause-look place atoms box)
 -- ---- values in rooms and unions
 
 -- an atom of the clause names a position of the box
-fits-position : (v : ℕ) (atoms : List Atom) {a : Atom} → ClauseFits v atoms → List·Memᴰ a atoms → (1 ≤ a .position) × (a .position ≤ v)
+pub fits-position : (v : ℕ) (atoms : List Atom) {a : Atom} → ClauseFits v atoms → List·Memᴰ a atoms → (1 ≤ a .position) × (a .position ≤ v)
 fits-position v atoms fits t = let fit = every-at (λ a. (1 ≤ a .position) × (a .position ≤ v) × (a .set < 2 ^ 32)) fits t in (fit .0, fit .1)
 
 -- a position with a value in its union is one of the box, and live
@@ -121,15 +120,13 @@ settled-some (a ∷ more) atoms box =
     Iff·trans (either-holds (inside (roomAt box (a .position)) (united (a .position) atoms)) (settledBy more atoms box)) (either-same Iff·rfl (settled-some more atoms box))
 
 -- in a clause that is not settled every live position has two or more values
-live-two : (atoms : List Atom) (box : List ℕ) (p : ℕ) → Rooms box → settledClause box atoms ≡ false → LiveIn atoms box p → 2 ≤ count (roomAt box p)
+pub live-two : (atoms : List Atom) (box : List ℕ) (p : ℕ) → roomAt box p < 2 ^ 32 → settledClause box atoms ≡ false → T (isLive atoms p (roomAt box p)) → 2 ≤ count (roomAt box p)
 unfolding settledClause
-live-two atoms box p rooms u live = go (decLe 2 (count (roomAt box p)))
+live-two atoms box p mask u live =
+    partly-inside-two (roomAt box p) (united p atoms) (shared .0) mask (shared .1) (shared .2) unsettled
   where
-    mask : roomAt box p < 2 ^ 32
-    mask = live-room atoms box p rooms live .0
-
     shared : (x : ℕ) × member x (roomAt box p) × member x (united p atoms)
-    shared = shared-of-live atoms p (roomAt box p) mask (live .2)
+    shared = shared-of-live atoms p (roomAt box p) mask live
 
     unsettled : ShowsSettled atoms box p → ⊥
     unsettled t =
@@ -137,14 +134,8 @@ live-two atoms box p rooms u live = go (decLe 2 (count (roomAt box p)))
         let here = subst (ShowsSettled atoms box) (sym (named .2)) t in
         subst T u (settled-some atoms atoms box .1 (some-of-listed (λ a. ShowsSettled atoms box (a .position)) (named .1) here))
 
-    go : Dec (2 ≤ count (roomAt box p)) → 2 ≤ count (roomAt box p)
-    go (yes two) = two
-    go (no one) =
-        absurd (unsettled (inside-iff (roomAt box p) (united p atoms) .1
-        (λ y t. subst (λ (x : ℕ). member x (united p atoms)) (count-one-member (roomAt box p) (shared .0) y mask (omega arith) (shared .1) t) (shared .2))))
-
 -- a position that is live in a box is live in a larger one
-live-larger : (atoms : List Atom) (b c : List ℕ) (p : ℕ) → Rooms b → BoxInside b c → LiveIn atoms b p → LiveIn atoms c p
+pub live-larger : (atoms : List Atom) (b c : List ℕ) (p : ℕ) → Rooms b → BoxInside b c → LiveIn atoms b p → LiveIn atoms c p
 unfolding roomAt
 live-larger atoms b c p rooms i live =
     let shared = shared-of-live atoms p (getD b (p - 1) 0) (live-room atoms b p rooms live .0) (live .2) in
@@ -222,7 +213,7 @@ module _ (place : ℕ) (atoms : List Atom) where
   pub clause-steady : Steady (λ v. ClauseFits v atoms) (LiveIn atoms) (lookClause place atoms) (λ box. settledClause box atoms)
   clause-steady box rooms fits e u =
       let live = alive-live place atoms box box e in
-      (live .0, live .1, live .1 .0, live .1 .1, live-two atoms box (live .0) rooms u (live .1))
+      (live .0, live .1, live .1 .0, live .1 .1, live-two atoms box (live .0) (live-room atoms box (live .0) rooms (live .1) .0) u (live .1 .2))
 
   -- monotone: a smaller box gives a smaller result, and where the larger is dead so is the smaller
   pub clause-monotone : Monotone (lookClause place atoms)

@@ -1,14 +1,19 @@
--- A rule within 01's limits is made of parts that fit: `rule-fits`. Assumes nothing.
+-- A rule within 01's limits is made of parts that fit (`rule-fits`), and so are those of a sound input (`sound-fits`). Assumes nothing.
+use mathlib.Core.Path.{subst}
 use mathlib.Core.List.{List, [], _∷_, map}
-use Prim.Native.Nat.{ℕ, _-_, _^_, _≤_, _<_}
-use Rattle.sets.specs.Sets.{full, single, inside, values}
+use Prim.Native.Nat.{ℕ, _^_, _≤_, _<_}
+use Rattle.sets.specs.Sets.{full, single, values}
 use Rattle.sets.proofs.Sameness.{inside-below, full-below, single-below}
 use Rattle.lists.specs.Lists.{Every}
-use Rattle.rules.specs.Rules.{Rule, clause, equality}
+use Rattle.rules.specs.Rules.{Rule, clause, equality, Field, File}
 use Rattle.rules.specs.Parts.{oneOf, atomIn, equalityParts, partsOf}
-use Rattle.rules.specs.Writing.{PositionFits, SetFits, RuleFits}
+use Rattle.rules.specs.Reading.{reading}
+use Rattle.rules.specs.Sound.{fileOf, fieldsIn, SoundInput}
+use Rattle.rules.specs.Writing.{fieldsOf, PositionFits, SetFits, RuleFits, Within}
 use Rattle.lists.proofs.ListLaws.{every-of-listed, every-over-append, every-over-map, every-map}
 use Rattle.rules.proofs.EqualityMeaning.{MaskFits}
+use Rattle.rules.proofs.Writing.PlaceLaws.{every-field}
+use Rattle.rules.proofs.Writing.RoundTrip.{written-of-read}
 use Rattle.steps.proofs.Looks.ClauseLaws.{ClauseFits}
 use Rattle.steps.proofs.Looks.PartLaws.{PartFits}
 
@@ -52,5 +57,21 @@ abbrev pub Fits : ℕ → Rule → Type 0
 Fits v rule = MaskFits rule × Every (PartFits v) (partsOf rule)
 
 -- a rule within 01's limits is such a rule
-pub rule-fits : (v n : ℕ) (rule : Rule) → RuleFits v n rule → Fits v rule
+rule-fits : (v n : ℕ) (rule : Rule) → RuleFits v n rule → Fits v rule
 rule-fits v n rule fits = (rule-mask v n rule fits, parts-fit v n rule fits)
+
+-- every rule of the fields fits v positions
+abbrev pub FieldsFit : ℕ → List Field → Type 0
+FieldsFit v fields = Every (λ f. Fits v (f .rule)) fields
+
+-- so it is with the fields of a file within 01's limits
+pub fields-fit : (file : File) → Within file → FieldsFit (file .v) (fieldsOf file)
+fields-fit file within =
+    every-field (Fits (file .v)) file .0 (every-map (RuleFits (file .v) (file .n)) (Fits (file .v)) (file .rules) (rule-fits (file .v) (file .n)) (within .rules))
+
+-- and with those of a sound input
+pub sound-fits : (s : List ℕ) (v : ℕ) → Every (λ b. b < 256) s → SoundInput s v → FieldsFit v (fieldsIn s)
+unfolding fieldsIn
+sound-fits s v bytes input =
+    let file = fileOf (reading s) in
+    subst (λ (k : ℕ). FieldsFit k (fieldsOf file)) (input .positions) (fields-fit file (written-of-read s bytes file (input .read) .1))

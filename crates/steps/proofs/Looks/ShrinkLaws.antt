@@ -2,29 +2,22 @@
 use mathlib.Core.Path.{_≡_, refl, sym, ap, _∙_, subst}
 use mathlib.Core.Bool.{Bool, true, false}
 use mathlib.Core.List.{List}
-use Prim.Native.Nat.{ℕ, zero, suc, _-_, _<_}
-use native.Mathlib.Decide.{decLt}
+use Prim.Native.Nat.{ℕ, zero, suc, _<_}
 use native.Mathlib.Omega.{arith}
 use lib.Dec.{T}
-use lib.ListN.{length}
 use Rattle.lists.proofs.TestLaws.{true-test}
 use Rattle.lists.specs.Lists.{Some, Every}
 use Rattle.rules.specs.Rules.{Field}
 use Rattle.rules.specs.Meaning.{Meets, MeetsFields}
-use Rattle.steps.specs.Boxes.{roomAt, openValues, InBox, BoxInside, Rooms}
+use Rattle.steps.specs.Boxes.{openValues, InBox, BoxInside, Rooms}
 use Rattle.steps.specs.Shrinking.{Look, dead, alive, ifAlive, ifTest, lookRule, lookField, round, sameRooms, shrink, shrunk, settledRule, settled}
-use Rattle.steps.specs.Search.{chosen}
 use Rattle.steps.proofs.Boxes.BoxLaws.{in-box-length, box-inside-refl, box-inside-trans, same-rooms-iff}
-use Rattle.steps.proofs.Boxes.BoxSizes.{open-falls, chosen-most, chosen-before}
+use Rattle.steps.proofs.Boxes.BoxSizes.{open-falls}
 use Rattle.steps.proofs.Looks.SixLaws.{Sound, Inward, Settling, Steady, Monotone, NotLive}
 use Rattle.steps.proofs.Looks.InTurn.{Keeps, Spares, dead-not-alive, inward-from, in-turn-sound, in-turn-inward, in-turn-fixed}
 use Rattle.steps.proofs.Looks.InTurn.{all-settled, in-turn-steady, in-turn-monotone, all-not-live}
-use Rattle.steps.proofs.Looks.FittingRules.{Fits}
+use Rattle.steps.proofs.Looks.FittingRules.{Fits, FieldsFit}
 use Rattle.steps.proofs.Looks.RuleLaws.{LiveInRule, rule-sound, rule-inside, rule-settled, rule-steady, rule-monotone, rule-not-live}
-
--- every rule of the fields fits v positions
-abbrev pub FieldsFit : ℕ → List Field → Type 0
-FieldsFit v fields = Every (λ f. Fits v (f .rule)) fields
 
 -- p is a position of the box that is live in some part of a field that is not settled
 abbrev pub LiveInFields : List Field → List ℕ → ℕ → Type 0
@@ -186,15 +179,3 @@ module _ (fields : List Field) where
   pub agree-where-live : NotLive (λ v. FieldsFit v fields) (λ a. MeetsFields a fields) (LiveInFields fields)
   agree-where-live =
       all-not-live (λ v f. Fits v (f .rule)) (λ a f. Meets a (f .rule)) (λ f. LiveInRule (f .rule)) (λ f. rule-not-live (f .rule)) fields
-
-  -- an unsettled box in which nothing is left to cut has a room to split: the search never stalls
-  pub never-stalls : (box : List ℕ) → Rooms box → FieldsFit (length box) fields → round fields box ≡ alive box → settled fields box ≡ false → chosen box < length box
-  unfolding roomAt
-  never-stalls box rooms fits e u = go (decLt (chosen box) (length box))
-    where
-      go : Dec (chosen box < length box) → chosen box < length box
-      go (yes l) = l
-      go (no l) =
-          let s = round-steady box rooms fits e u in
-          let single = chosen-before box (s .0 - 1) (omega (arith, chosen-most box)) in
-          absurd (omega arith)

@@ -24,7 +24,7 @@ enough-or-not needed allowed = go (decLe needed allowed)
     go (no h) = inr (omega arith)
 
 -- a search counts on from the splits that it is given
-walk-more : {fields : List Field} {box : List ℕ} (t : Tree fields box) (s d : ℕ) → s ≤ walk t never s d .splits
+pub walk-more : {fields : List Field} {box : List ℕ} (t : Tree fields box) (s d : ℕ) → s ≤ walk t never s d .splits
 walk-more (dies place rooms e) s d = omega arith
 walk-more (settles m t) s d = omega arith
 walk-more (stalls m u l) s d = omega arith

@@ -16,7 +16,7 @@ use Rattle.steps.proofs.Search.Allowance.{Spent, enough-or-not, enough-
 use Rattle.steps.proofs.Search.Bounds.{explore-bound}
 use Rattle.steps.proofs.Search.Says.{Same, Says, says-same, FitsBox, explored-says}
 use Rattle.steps.proofs.Search.Special.{special-none, special-plan}
-use Rattle.steps.proofs.Search.Tree.{PlanIn, First}
+use Rattle.steps.proofs.Search.Chosen.{PlanIn, First}
 use Rattle.steps.proofs.Search.WideRooms.{wideRooms}
 
 -- a box to search: its rooms, rules that fit it, and what its plans are

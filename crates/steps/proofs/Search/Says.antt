@@ -16,9 +16,11 @@ use Rattle.steps.specs.Search.{chosen, ifNone, explored}
 use Rattle.steps.proofs.Boxes.BoxLaws.{in-box-inside}
 use Rattle.steps.proofs.Boxes.BoxSizes.{smallest-in-box, smallest-first, first-half-inside, other-half-inside, in-a-half}
 use Rattle.steps.proofs.Looks.InTurn.{dead-not-alive}
-use Rattle.steps.proofs.Looks.ShrinkLaws.{FieldsFit, shrunk-sound, settled-met, never-stalls}
+use Rattle.steps.proofs.Looks.FittingRules.{FieldsFit}
+use Rattle.steps.proofs.Looks.ShrinkLaws.{shrunk-sound, settled-met}
 use Rattle.steps.proofs.Search.Split.{after-none}
-use Rattle.steps.proofs.Search.Tree.{PlanIn, First, SplitAt, Shrinks, Tree, dies, settles, stalls, divides, same-length, first-smaller, other-smaller, tree}
+use Rattle.steps.proofs.Search.Chosen.{PlanIn, First, SplitAt, never-stalls}
+use Rattle.steps.proofs.Search.Tree.{Shrinks, Tree, dies, settles, stalls, divides, same-length, first-smaller, other-smaller, tree}
 use Rattle.steps.proofs.Search.Walk.{walk, never, explored-walks}
 
 -- two descriptions of the same plans
@@ -52,7 +54,7 @@ FitsBox fields box = FieldsFit (length box) fields
 
 module _ (fields : List Field) where
   -- rules that fit a box fit every box inside
-  fits-inside : (b c : List ℕ) → BoxInside b c → FitsBox fields c → FitsBox fields b
+  pub fits-inside : (b c : List ℕ) → BoxInside b c → FitsBox fields c → FitsBox fields b
   fits-inside = same-length (λ v. FieldsFit v fields)
 
   -- a box with a plan is not dead
@@ -63,7 +65,7 @@ module _ (fields : List Field) where
 
   module _ {box inner : List ℕ} (m : Shrinks fields box inner) (fits : FitsBox fields box) where
     -- the rules fit the shrunk box too
-    inner-fits : FitsBox fields inner
+    pub inner-fits : FitsBox fields inner
     inner-fits = fits-inside inner box (m .inside) fits
 
     -- a box shrinks to one with the same plans
@@ -77,7 +79,7 @@ module _ (fields : List Field) where
             (subst (InBox a) same (found .2), p .1)
 
     -- a shrunk box that is not settled has a room to split
-    pub splits-somewhere : settled fields inner ≡ false → chosen inner < length inner
+    pub splits-somewhere : settled fields inner ≡ false → chosen fields inner < length inner
     splits-somewhere = never-stalls fields inner (m .rooms) inner-fits (m .fixed)
 
   -- the plans of a box are those of its halves
@@ -100,7 +102,7 @@ module _ (fields : List Field) where
   walk-says {box} (divides {inner = inner} {i = i} m u at p f o) fits s d =
       let first = walk f never (s + 1) d in
       says-same (PlanIn fields inner) (PlanIn fields box) (ifNone first (walk o never)) (shrunk-plans m fits)
-      (says-split (PlanIn fields inner) (PlanIn fields (firstHalf i inner)) (PlanIn fields (otherHalf i inner)) (half-plans inner i (m .rooms) p) (p .ordered)
+      (says-split (PlanIn fields inner) (PlanIn fields (firstHalf i inner)) (PlanIn fields (otherHalf i inner)) (half-plans inner i (m .rooms) p) (p .ordered (inner-fits m fits))
       first (walk o never)
       (walk-says f (fits-inside (firstHalf i inner) box (first-smaller m p .inside) fits) (s + 1) d)
       (walk-says o (fits-inside (otherHalf i inner) box (other-smaller m p .inside) fits)))

@@ -23,11 +23,13 @@ use Rattle.steps.proofs.Boxes.BoxLaws.{in-box-set, rooms-at}
 use Rattle.steps.proofs.Boxes.BoxSizes.{smallest-in-box, smallest-lowest}
 use Rattle.steps.proofs.Looks.InTurn.{in-turn-fixed, all-passed}
 use Rattle.steps.proofs.Looks.PartLaws.{part-inside}
-use Rattle.steps.proofs.Looks.ShrinkLaws.{FieldsFit, fixed-each}
+use Rattle.steps.proofs.Looks.FittingRules.{FieldsFit}
+use Rattle.steps.proofs.Looks.ShrinkLaws.{fixed-each}
 use Rattle.steps.proofs.Special.LadderLaws.{smallest-at, ladder-clause-least}
 use Rattle.steps.proofs.Special.SpecialExactly.{special-few}
 use Rattle.steps.proofs.Search.Split.{other-stays}
-use Rattle.steps.proofs.Search.Tree.{PlanIn, Shrinks, Tree, dies, settles, stalls, divides, same-length, shrinks, first-smaller, tree}
+use Rattle.steps.proofs.Search.Chosen.{PlanIn}
+use Rattle.steps.proofs.Search.Tree.{Shrinks, Tree, dies, settles, stalls, divides, same-length, shrinks, first-smaller, tree}
 use Rattle.steps.proofs.Search.Walk.{walk, never, explored-walks}
 use Rattle.steps.proofs.Search.Says.{plan-lives, shrunk-plans, splits-somewhere}
 use Rattle.steps.proofs.Search.WideRooms.{wideRooms, wide-inside, wide-falls}

@@ -1,45 +1,21 @@
 -- The tree of a search: what it meets in a box, and in both halves wherever it splits, to the end of each (`tree`). Assumes nothing.
 use mathlib.Core.Path.{_≡_, refl, sym, subst}
-use mathlib.Core.Logic.{_⊎_}
 use mathlib.Core.Bool.{Bool, true, false}
 use mathlib.Core.List.{List}
 use Prim.Native.Nat.{ℕ, zero, suc, _≤_, _<_}
 use native.Mathlib.Omega.{arith}
 use lib.Dec.{leb}
-use lib.ListN.{length, getD}
+use lib.ListN.{length}
 use borrow.Author.Tests.{leb-true, leb-false}
-use Rattle.sets.specs.Sets.{count}
 use Rattle.rules.specs.Rules.{Field}
-use Rattle.rules.specs.Meaning.{MeetsFields, Before}
-use Rattle.steps.specs.Boxes.{openValues, InBox, BoxInside, Rooms, firstHalf, otherHalf}
+use Rattle.steps.specs.Boxes.{openValues, BoxInside, Rooms, firstHalf, otherHalf}
 use Rattle.steps.specs.Shrinking.{Look, dead, alive, round, shrunk, settled}
 use Rattle.steps.specs.Search.{chosen}
 use Rattle.steps.proofs.Boxes.BoxLaws.{box-inside-length, box-inside-trans}
-use Rattle.steps.proofs.Boxes.BoxSizes.{open-inside, chosen-two, chosen-before, halves-in-order}
+use Rattle.steps.proofs.Boxes.BoxSizes.{open-inside}
 use Rattle.steps.proofs.Boxes.BoxSizes.{first-half-rooms, other-half-rooms, first-half-inside, other-half-inside, first-half-falls, other-half-falls}
 use Rattle.steps.proofs.Looks.ShrinkLaws.{shrunk-inside, shrunk-fixed}
-
--- a plan of a box: an assignment in it that meets all rules
-abbrev pub PlanIn : List Field → List ℕ → List ℕ → Type 0
-PlanIn fields box a = InBox a box × MeetsFields a fields
-
--- the first in dictionary order of the assignments that are plans
-abbrev pub First : (List ℕ → Type 0) → List ℕ → Type 0
-First Plan a = Plan a × ((b : List ℕ) → Plan b → (a ≡ b) ⊎ Before a b)
-
--- ---- where a box may be split
-
--- an index to split at: its room has two or more values, and the first plan of the first half comes before every plan of the other half
-pub record SplitAt (fields : List Field) (box : List ℕ) (i : ℕ) : Type 0 where
-  pub there : i < length box
-  pub two : 2 ≤ count (getD box i 0)
-  pub ordered : (a b : List ℕ) → First (PlanIn fields (firstHalf i box)) a → PlanIn fields (otherHalf i box) b → Before a b
-
--- the chosen index is one: the rooms before it are single
-pub chosen-splits : (fields : List Field) (box : List ℕ) → Rooms box → chosen box < length box → SplitAt fields box (chosen box)
-chosen-splits fields box rooms there =
-    let two = chosen-two box there in
-    record { there = there; two = two; ordered = λ a b f g. halves-in-order box (chosen box) rooms there two (chosen-before box) a b (f .0 .0) (g .0) }
+use Rattle.steps.proofs.Search.Chosen.{SplitAt, chosen-splits}
 
 -- ---- smaller boxes
 
@@ -94,8 +70,8 @@ same-length P b c i = subst P (sym (box-inside-length b c i))
 pub data Tree (fields : List Field) : List ℕ → Type 0 where
   dies : {box : List ℕ} (place : ℕ) → Rooms box → shrunk fields box ≡ dead place → Tree fields box
   settles : {box inner : List ℕ} → Shrinks fields box inner → settled fields inner ≡ true → Tree fields box
-  stalls : {box inner : List ℕ} → Shrinks fields box inner → settled fields inner ≡ false → length inner ≤ chosen inner → Tree fields box
-  divides : {box inner : List ℕ} {i : ℕ} → Shrinks fields box inner → settled fields inner ≡ false → chosen inner ≡ i → SplitAt fields inner i
+  stalls : {box inner : List ℕ} → Shrinks fields box inner → settled fields inner ≡ false → length inner ≤ chosen fields inner → Tree fields box
+  divides : {box inner : List ℕ} {i : ℕ} → Shrinks fields box inner → settled fields inner ≡ false → chosen fields inner ≡ i → SplitAt fields inner i
       → Tree fields (firstHalf i inner) → Tree fields (otherHalf i inner) → Tree fields box
 
 module _ (fields : List Field) where
@@ -105,18 +81,18 @@ module _ (fields : List Field) where
   grown (suc k) box rooms h = look (grown k) (shrunk fields box) refl
     where
       test : ((b : List ℕ) → Rooms b → openValues b < k → Tree fields b) → {inner : List ℕ} → Shrinks fields box inner
-          → (t u : Bool) → settled fields inner ≡ t → leb (length inner) (chosen inner) ≡ u → Tree fields box
+          → (t u : Bool) → settled fields inner ≡ t → leb (length inner) (chosen fields inner) ≡ u → Tree fields box
       test rest s true u e l = settles s e
-      test rest {inner} s false true e l = stalls s e (leb-true (length inner) (chosen inner) l)
+      test rest {inner} s false true e l = stalls s e (leb-true (length inner) (chosen fields inner) l)
       test rest {inner} s false false e l =
-          let p = chosen-splits fields inner (s .rooms) (leb-false (length inner) (chosen inner) l) in
+          let p = chosen-splits fields inner (s .rooms) (leb-false (length inner) (chosen fields inner) l) in
           let f = first-smaller s p in
           let o = other-smaller s p in
-          divides s e refl p (rest (firstHalf (chosen inner) inner) (f .rooms) (omega arith)) (rest (otherHalf (chosen inner) inner) (o .rooms) (omega arith))
+          divides s e refl p (rest (firstHalf (chosen fields inner) inner) (f .rooms) (omega arith)) (rest (otherHalf (chosen fields inner) inner) (o .rooms) (omega arith))
 
       look : ((b : List ℕ) → Rooms b → openValues b < k → Tree fields b) → (l : Look) → shrunk fields box ≡ l → Tree fields box
       look rest (dead place) e = dies place rooms e
-      look rest (alive inner) e = test rest (shrinks fields box inner rooms e) (settled fields inner) (leb (length inner) (chosen inner)) refl refl
+      look rest (alive inner) e = test rest (shrinks fields box inner rooms e) (settled fields inner) (leb (length inner) (chosen fields inner)) refl refl
 
   -- every box of rooms has a tree
   pub tree : (box : List ℕ) → Rooms box → Tree fields box

@@ -31,10 +31,10 @@ abbrev pub turn : List Field → (ℕ → Bool) → List ℕ → ℕ → ℕ →
 turn fields spent box s d again =
     ifAlive (shrunk fields box) (λ _. none s (d + 1)) λ box′.
     ifTest (settled fields box′) (plan (smallestOf box′) s d) λ _.
-    ifTest (leb (length box′) (chosen box′)) (stalled s d) λ _.
+    ifTest (leb (length box′) (chosen fields box′)) (stalled s d) λ _.
     ifTest (spent s) (undecided s d) λ _.
-    ifNone (again (firstHalf (chosen box′) box′) (s + 1) d) λ s′ d′.
-    again (otherHalf (chosen box′) box′) s′ d′
+    ifNone (again (firstHalf (chosen fields box′) box′) (s + 1) d) λ s′ d′.
+    again (otherHalf (chosen fields box′) box′) s′ d′
 
 module _ {fields : List Field} where
   -- a turn follows the tree where the searches of smaller boxes do
@@ -43,7 +43,7 @@ module _ {fields : List Field} where
       → (s d : ℕ) → turn fields spent box s d again ≡ walk t spent s d
   turn-walks (dies place rooms e) spent again rest s d = rw e
   turn-walks (settles m t) spent again rest s d = rw (m .shrank, t)
-  turn-walks (stalls {inner = inner} m u l) spent again rest s d = rw (m .shrank, u, le-leb (length inner) (chosen inner) l)
+  turn-walks (stalls {inner = inner} m u l) spent again rest s d = rw (m .shrank, u, le-leb (length inner) (chosen fields inner) l)
   turn-walks (divides {inner = inner} m u at p f o) spent again rest s d =
       rw (m .shrank, u, at, lt-leb (length inner) _ (p .there))
       (ap₂ (split spent s d) (rest _ f (first-smaller m p .falls) (s + 1) d) (fun-ext λ a. fun-ext λ b. rest _ o (other-smaller m p .falls) a b))
@@ -54,7 +54,7 @@ module _ {fields : List Field} where
   search-walks zero t less allowed s d = absurd (omega arith)
   search-walks (suc k) t less allowed s d = turn-walks t (leb allowed) (search k fields allowed) (λ half h fewer. search-walks k h (omega arith) allowed) s d
 
-  explore-walks : (k : ℕ) {box : List ℕ} (t : Tree fields box) → openValues box < k → (s d : ℕ) → explore k fields box s d ≡ walk t never s d
+  pub explore-walks : (k : ℕ) {box : List ℕ} (t : Tree fields box) → openValues box < k → (s d : ℕ) → explore k fields box s d ≡ walk t never s d
   unfolding explore
   explore-walks zero t less s d = absurd (omega arith)
   explore-walks (suc k) t less s d = turn-walks t never (explore k fields) (λ half h fewer. explore-walks k h (omega arith)) s d

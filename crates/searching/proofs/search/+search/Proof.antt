@@ -1,7 +1,7 @@
 -- `searching::search::search` meets its contract. It calls itself; the measure is the number of open values, which falls with either half. Assumes nothing.
-use mathlib.Core.Path.{_≡_, sym, _∙_, subst}
+use mathlib.Core.Path.{_≡_, sym, subst}
 use mathlib.Core.List.{List}
-use Prim.Native.Nat.{ℕ, _+_, _≤_, _<_}
+use Prim.Native.Nat.{ℕ, _≤_, _<_}
 use native.Mathlib.Omega.{arith}
 use lib.ListN.{length, take}
 use borrow.Author.Needs.{needs}
@@ -10,16 +10,18 @@ use borrow.Fn.PlainCycle.{Measures, is, falls, and}
 use borrow.Kind.Array.{eInt, good-length}
 use mir.Syntax.{w32}
 use Rattle.rules.specs.Sound.{fieldsIn}
+use Rattle.lists.specs.Lists.{Every}
+use Rattle.rules.proofs.Reading.ByteLaws.{bytes-each}
 use Rattle.rules.proofs.Reading.WalkLaws.{sound-limits}
 use Rattle.steps.specs.Boxes.{openValues}
 use Rattle.steps.proofs.Boxes.BoxLaws.{box-inside-refl}
-use Rattle.splitting.proofs.choose.choose.Reads as choose-reads
-use Rattle.splitting.proofs.choose.first_half.Reads as first-half-reads
-use Rattle.splitting.proofs.choose.other_half.Reads as other-half-reads
-use Rattle.splitting.proofs.choose.smallest_values.Reads as smallest-values-reads
-use Rattle.settling.proofs.settle.settled.Reads as settled-reads
+use Rattle.steps.proofs.Looks.FittingRules.{sound-fits}
+use Rattle.choosing.proofs.choose.choose.Reads as choose-reads
+use Rattle.splitting.proofs.halves.first_half.Reads as first-half-reads
+use Rattle.splitting.proofs.halves.other_half.Reads as other-half-reads
+use Rattle.splitting.proofs.halves.smallest_values.Reads as smallest-values-reads
 use Rattle.boxes.proofs.shrink.shrink.Reads as shrink-reads
-use Rattle.searching.proofs.Turns.{Given, Saved, Split, Begun, begun-of, shrunk-dead, ends-dead, saved-of, values-small, ends-settled, ends-stalled, ends-undecided, ends-first, ends-second, none-kept, first-counted, Smaller, saved-shrank, first-smaller, other-smaller}
+use Rattle.searching.proofs.Turns.{Given, Saved, Split, Begun, begun-of, shrunk-dead, ends-dead, saved-of, values-small, ends-settled, ends-undecided, ends-first, ends-second, none-kept, first-counted, Smaller, saved-shrank, first-smaller, other-smaller}
 use Rattle.searching.proofs.reply.Reply.ended.Reads as ended-reads
 use Rattle.searching.proofs.search.write_values.Reads as write-values-reads
 use Rattle.searching.proofs.search.search.Reads as search′
@@ -39,7 +41,7 @@ search-below t = and 2 search-kinds.ps (falls 2 search-kinds.ps _<_ μ-search t)
 
 -- what the calls ask and give
 abbrev claims : ℕ → search-lts.Claims
-claims t = (shrink-reads.Asked, shrink-reads.Learnt, ended-reads.Asked, ended-reads.Learnt, settled-reads.Asked, settled-reads.Learnt, smallest-values-reads.Asked, smallest-values-reads.Learnt, write-values-reads.Asked, write-values-reads.Learnt, choose-reads.Asked, choose-reads.Learnt, first-half-reads.Asked, first-half-reads.Learnt, other-half-reads.Asked, other-half-reads.Learnt, search-below t, search′.Post)
+claims t = (shrink-reads.Asked, shrink-reads.Learnt, ended-reads.Asked, ended-reads.Learnt, choose-reads.Asked, choose-reads.Learnt, smallest-values-reads.Asked, smallest-values-reads.Learnt, write-values-reads.Asked, write-values-reads.Learnt, first-half-reads.Asked, first-half-reads.Learnt, other-half-reads.Asked, other-half-reads.Learnt, search-below t, search′.Post)
 
 -- ---- the states that a call comes through, each named by what was done last
 
@@ -51,9 +53,6 @@ Shrunk t = search-lts.After-shrink (claims t) (search-at t) search′.Post
 
 abbrev Alive : ℕ → Type 0
 Alive t = search-lts.After-enum-told2 (claims t) (search-at t) search′.Post
-
-abbrev Tested : ℕ → Type 0
-Tested t = search-lts.After-settled (claims t) (search-at t) search′.Post
 
 abbrev Chosen : ℕ → Type 0
 Chosen t = search-lts.After-choose (claims t) (search-at t) search′.Post
@@ -72,16 +71,13 @@ module _ {t : ℕ} where
   abbrev shrunk : Alive t → Shrunk t
   shrunk c = c .before .before .before
 
-  abbrev living : Tested t → Alive t
+  abbrev living : Chosen t → Alive t
   living c = c .before .before
 
-  abbrev tested : Chosen t → Tested t
-  tested c = c .before .before .before
-
-  abbrev chosen : search-lts.Else3 (claims t) (search-at t) search′.Post → Chosen t
+  abbrev chosen : search-lts.Else2 (claims t) (search-at t) search′.Post → Chosen t
   chosen c = c .before .before
 
-  abbrev opened : Halved t → search-lts.Else3 (claims t) (search-at t) search′.Post
+  abbrev opened : Halved t → search-lts.Else2 (claims t) (search-at t) search′.Post
   opened c = c .before .before
 
   abbrev halved : Searched t → Halved t
@@ -100,34 +96,33 @@ positions c = sound-limits (c .args .input .now) (c .args .v) (c .pre .1 .0) .1
 rooms-long : {t : ℕ} (c : Start t) → length (c .args .rooms) ≡ 64
 rooms-long c = good-length (eInt w32) 64 (c .args .rooms) _ (c .good .1 .1 .1 .0)
 
+-- every byte of the input is one
+bytes : {t : ℕ} (c : Shrunk t) → Every (λ b. b < 256) (start c .args .input .now)
+bytes c = bytes-each (start c .args .input .now) (λ i. c .before .before .shared-slice-known .given i .fits)
+
 -- what the call is given
-abbrev given : {t : ℕ} → Start t → Given
-given c = record {
-  fields = fieldsIn (c .args .input .now);
-  v = c .args .v;
-  rooms = c .args .rooms;
-  allowed = c .args .allowed;
-  splits = c .args .splits;
-  deadEnds = c .args .dead-ends;
-  before = c .args .answer .now;
-  small = positions c;
-  long = rooms-long c;
-  full = c .pre .1 .1;
+abbrev given : {t : ℕ} → Shrunk t → Given
+given c = let a = start c .args in record {
+  fields = fieldsIn (a .input .now);
+  v = a .v;
+  rooms = a .rooms;
+  allowed = a .allowed;
+  splits = a .splits;
+  deadEnds = a .dead-ends;
+  before = a .answer .now;
+  small = positions (start c);
+  long = rooms-long (start c);
+  full = start c .pre .1 .1;
+  fits = sound-fits (a .input .now) (a .v) (bytes c) (start c .pre .1 .0);
 }
 
 -- a box that lives: what was saved of it
-kept : {t : ℕ} (c : Alive t) → Saved (given (begin c)) (shrunk c .shrink .result .rooms)
-kept c = saved-of (given (begin c)) (shrunk c .shrink .result) (shrunk c .shrink .ensures) (c .enum-told2 .given .1)
+kept : {t : ℕ} (c : Alive t) → Saved (given (shrunk c)) (shrunk c .shrink .result .rooms)
+kept c = saved-of (given (shrunk c)) (shrunk c .shrink .result) (shrunk c .shrink .ensures) (c .enum-told2 .given .1)
 
--- a box that is not settled, and a room of it that is there
-split : {t : ℕ} (c : search-lts.Else3 (claims t) (search-at t) search′.Post)
-    → Split (given (begin (living (tested (chosen c))))) (shrunk (living (tested (chosen c))) .shrink .result .rooms) (chosen c .choose .result)
-split c = record {
-  kept = kept (living (tested (chosen c)));
-  unsettled = sym (tested (chosen c) .settled .ensures) ∙ chosen c .before .before .if1 .left;
-  at = chosen c .choose .ensures;
-  there = c .before .if2 .left;
-}
+-- a room of it that may be split
+split : {t : ℕ} (c : search-lts.Else2 (claims t) (search-at t) search′.Post) → Split (given (shrunk (living (chosen c)))) (shrunk (living (chosen c)) .shrink .result .rooms) (chosen c .choose .result)
+split c = record { kept = kept (living (chosen c)); at = chosen c .choose .ensures; there = c .before .if1 .left }
 
 search-shrink-requires : (t : ℕ) → search-lts.Need-shrink-requires (claims t) (search-at t) search′.Post
 search-shrink-requires t c κs = (c .before .before .pre .1 .0, c .before .before .pre .1 .1)
@@ -144,13 +139,13 @@ search-ended-requires t c κs = tt
 search-returns : (t : ℕ) → search-lts.Need-returns (claims t) (search-at t) search′.Post
 search-returns t c =
     let shrank = c .before .before .before .before in
-    ends-dead (given (start shrank)) _ (shrunk-dead _ _ (shrank .shrink .result) _ (shrank .shrink .ensures) (c .before .enum-told .given .1)) (c .ended .ensures)
+    ends-dead (given shrank) _ (shrunk-dead _ _ (shrank .shrink .result) _ (shrank .shrink .ensures) (c .before .enum-told .given .1)) (c .ended .ensures)
 
 search-enum-told-2 : (t : ℕ) → search-lts.Need-enum-told-2 (claims t) (search-at t) search′.Post
 search-enum-told-2 t c = search needs
 
-search-settled-requires : (t : ℕ) → search-lts.Need-settled-requires (claims t) (search-at t) search′.Post
-search-settled-requires t c κs = begin (c .before) .pre .1 .0
+search-choose-requires : (t : ℕ) → search-lts.Need-choose-requires (claims t) (search-at t) search′.Post
+search-choose-requires t c κs = begin (c .before) .pre .1 .0
 
 search-smallest-values-requires : (t : ℕ) → search-lts.Need-smallest-values-requires (claims t) (search-at t) search′.Post
 search-smallest-values-requires t c κs = positions (begin (living (c .before .before)))
@@ -159,7 +154,7 @@ search-write-values-requires : (t : ℕ) → search-lts.Need-write-values-requir
 search-write-values-requires t c κs =
     let least = c .before .before in
     let start = living (least .before .before .before) in
-    (positions (begin start), begin start .pre .1 .3, values-small (given (begin start)) (kept start) (least .smallest-values .ensures))
+    (positions (begin start), begin start .pre .1 .3, values-small (given (shrunk start)) (kept start) (least .smallest-values .ensures))
 
 search-ended-requires-2 : (t : ℕ) → search-lts.Need-ended-requires-2 (claims t) (search-at t) search′.Post
 search-ended-requires-2 t c κs = tt
@@ -171,53 +166,38 @@ search-returns-2 : (t : ℕ) → search-lts.Need-returns-2 (claims t) (search-at
 search-returns-2 t c =
     let wrote = c .before .before .before in
     let least = wrote .before .before .before in
-    let test = least .before .before .before in
-    ends-settled (given (begin (living test))) (kept (living test)) (sym (test .settled .ensures) ∙ least .before .before .if1 .taken) (least .smallest-values .ensures) (wrote .write-values .ensures) (c .ended2 .ensures)
-
-search-choose-requires : (t : ℕ) → search-lts.Need-choose-requires (claims t) (search-at t) search′.Post
-search-choose-requires t c κs = positions (begin (living (c .before .before)))
+    let choice = least .before .before .before in
+    ends-settled (given (shrunk (living choice))) (kept (living choice)) (choice .choose .result) (choice .choose .ensures) (least .before .before .if1 .taken) (least .smallest-values .ensures) (wrote .write-values .ensures) (c .ended2 .ensures)
 
 search-ended-requires-3 : (t : ℕ) → search-lts.Need-ended-requires-3 (claims t) (search-at t) search′.Post
 search-ended-requires-3 t c κs = tt
 
 search-returns-3 : (t : ℕ) → search-lts.Need-returns-3 (claims t) (search-at t) search′.Post
 search-returns-3 t c =
-    let choice = c .before .before in
-    let test = tested choice in
-    ends-stalled (given (begin (living test))) (kept (living test)) (sym (test .settled .ensures) ∙ choice .before .before .if1 .left) (choice .choose .result) (choice .choose .ensures) (c .before .if2 .taken) (c .ended3 .ensures)
-
-search-ended-requires-4 : (t : ℕ) → search-lts.Need-ended-requires-4 (claims t) (search-at t) search′.Post
-search-ended-requires-4 t c κs = tt
-
-search-returns-4 : (t : ℕ) → search-lts.Need-returns-4 (claims t) (search-at t) search′.Post
-search-returns-4 t c =
     let choice = c .before .before .before in
-    let test = tested choice in
-    ends-undecided (given (begin (living test))) (record {
-      kept = kept (living test);
-      unsettled = sym (test .settled .ensures) ∙ choice .before .before .if1 .left;
-      at = choice .choose .ensures;
-      there = c .before .before .if2 .left;
-    }) (c .before .if3 .taken) (c .ended4 .ensures)
+    ends-undecided (given (shrunk (living choice))) (record { kept = kept (living choice); at = choice .choose .ensures; there = c .before .before .if1 .left }) (c .before .if2 .taken) (c .ended3 .ensures)
 
 search-first-half-requires : (t : ℕ) → search-lts.Need-first-half-requires (claims t) (search-at t) search′.Post
-search-first-half-requires t c κs = omega (arith, positions (begin (living (tested (chosen c)))), split c .there)
+search-first-half-requires t c κs = omega (arith, positions (begin (living (chosen c))), split c .there)
 
 search-other-half-requires : (t : ℕ) → search-lts.Need-other-half-requires (claims t) (search-at t) search′.Post
-search-other-half-requires t c κs = omega (arith, positions (begin (living (tested (chosen (c .before))))), split (c .before) .there)
+search-other-half-requires t c κs = omega (arith, positions (begin (living (chosen (c .before)))), split (c .before) .there)
 
 -- the start, from a box that was split
+abbrev first-shrunk : {t : ℕ} → Halved t → Shrunk t
+first-shrunk c = shrunk (living (chosen (opened c)))
+
 abbrev before : {t : ℕ} → Halved t → Start t
-before c = begin (living (tested (chosen (opened c))))
+before c = start (first-shrunk c)
 
 search-add-search : (t : ℕ) → search-lts.Need-add-search (claims t) (search-at t) search′.Post
-search-add-search t c = let counts = before c .pre .1 .2 in omega (arith, opened c .if3 .left)
+search-add-search t c = let counts = before c .pre .1 .2 in omega (arith, opened c .if2 .left)
 
 -- both halves may be searched next, since the box that they are made of lies between the saved rooms and the box given
 fits : {t : ℕ} (c : Halved t)
-    → Smaller (given (before c)) (split (opened c)) (c .before .first-half .result) × Smaller (given (before c)) (split (opened c)) (c .other-half .result)
+    → Smaller (given (first-shrunk c)) (split (opened c)) (c .before .first-half .result) × Smaller (given (first-shrunk c)) (split (opened c)) (c .other-half .result)
 fits c =
-    let box = given (before c) in
+    let box = given (first-shrunk c) in
     let s = split (opened c) in (
       first-smaller box s (search (box-inside-refl, saved-shrank box s)) (c .before .first-half .ensures),
       other-smaller box s (search (box-inside-refl, saved-shrank box s)) (c .other-half .ensures),
@@ -228,7 +208,7 @@ search-search-requires t c κs =
     let h = c .before in
     let known = before h .pre in
     let counts = known .1 .2 in
-    let left = opened h .if3 .left in
+    let left = opened h .if2 .left in
     let halves = fits h in
     (omega (arith, known .0), (known .1 .0, search, record { ceiling = omega arith; within = omega arith; fewer = omega arith }, known .1 .3))
 
@@ -236,34 +216,34 @@ search-same-length-2 : (t : ℕ) → search-lts.Need-same-length-2 (claims t) (s
 search-same-length-2 t c = search needs
 
 -- what was found in the first half
-begun : {t : ℕ} (c : Searched t) → Begun (given (before (halved c))) (split (opened (halved c))) (c .search .result) (c .search .last .1 .1 .1 .1 .1 .1 .0)
-begun c = begun-of (given (before (halved c))) (split (opened (halved c))) (halved c .before .first-half .ensures) (c .search .ensures)
+begun : {t : ℕ} (c : Searched t) → Begun (given (first-shrunk (halved c))) (split (opened (halved c))) (c .search .result) (c .search .last .1 .1 .1 .1 .1 .1 .0)
+begun c = begun-of (given (first-shrunk (halved c))) (split (opened (halved c))) (halved c .before .first-half .ensures) (c .search .ensures)
 
-search-returns-5 : (t : ℕ) → search-lts.Need-returns-5 (claims t) (search-at t) search′.Post
-search-returns-5 t c =
+search-returns-4 : (t : ℕ) → search-lts.Need-returns-4 (claims t) (search-at t) search′.Post
+search-returns-4 t c =
     let first = c .before .before .before .before in
     let h = halved first in
-    ends-first (given (before h)) (split (opened h)) (first .search .result) (begun first) (opened h .if3 .left) (c .if4 .taken)
+    ends-first (given (first-shrunk h)) (split (opened h)) (first .search .result) (begun first) (opened h .if2 .left) (c .if3 .taken)
 
 search-search-requires-2 : (t : ℕ) → search-lts.Need-search-requires-2 (claims t) (search-at t) search′.Post
 search-search-requires-2 t c κs =
     let first = c .before .before .before .before .before in
     let h = halved first in
     let known = before h .pre in
-    let box = given (before h) in
+    let box = given (first-shrunk h) in
     let s = split (opened h) in
     let halves = fits h in
-    let long = subst (λ (b : List ℕ). 64 ≤ length b) (sym (none-kept box s (first .search .result) (begun first) (c .before .if4 .left))) (known .1 .3) in
-    (omega (arith, known .0), (known .1 .0, search, first-counted box s (first .search .result) (begun first) (known .1 .2) (opened h .if3 .left), long))
+    let long = subst (λ (b : List ℕ). 64 ≤ length b) (sym (none-kept box s (first .search .result) (begun first) (c .before .if3 .left))) (known .1 .3) in
+    (omega (arith, known .0), (known .1 .0, search, first-counted box s (first .search .result) (begun first) (known .1 .2) (opened h .if2 .left), long))
 
 search-same-length-3 : (t : ℕ) → search-lts.Need-same-length-3 (claims t) (search-at t) search′.Post
 search-same-length-3 t c = search needs
 
-search-returns-6 : (t : ℕ) → search-lts.Need-returns-6 (claims t) (search-at t) search′.Post
-search-returns-6 t c =
+search-returns-5 : (t : ℕ) → search-lts.Need-returns-5 (claims t) (search-at t) search′.Post
+search-returns-5 t c =
     let first = c .before .before .before .before .before .before .before .before in
     let h = halved first in
-    ends-second (given (before h)) (split (opened h)) (first .search .result) (begun first) (opened h .if3 .left) (c .before .before .before .before .if4 .left) (h .other-half .ensures) (c .before .before .search2 .ensures)
+    ends-second (given (first-shrunk h)) (split (opened h)) (first .search .result) (begun first) (opened h .if2 .left) (c .before .before .before .before .if3 .left) (h .other-half .ensures) (c .before .before .search2 .ensures)
 
 pub +search-spec : {M : Type 1} → statement M
 +search-spec = close μ-search λ t. search-lts.spec (claims t)
@@ -275,23 +255,20 @@ pub +search-spec : {M : Type 1} → statement M
     (search-ended-requires t)
     (search-returns t)
     (search-enum-told-2 t)
-    (search-settled-requires t)
+    (search-choose-requires t)
     (search-smallest-values-requires t)
     (search-write-values-requires t)
     (search-ended-requires-2 t)
     (search-same-length t)
     (search-returns-2 t)
-    (search-choose-requires t)
     (search-ended-requires-3 t)
     (search-returns-3 t)
-    (search-ended-requires-4 t)
-    (search-returns-4 t)
     (search-first-half-requires t)
     (search-other-half-requires t)
     (search-add-search t)
     (search-search-requires t)
     (search-same-length-2 t)
-    (search-returns-5 t)
+    (search-returns-4 t)
     (search-search-requires-2 t)
     (search-same-length-3 t)
-    (search-returns-6 t)
+    (search-returns-5 t)

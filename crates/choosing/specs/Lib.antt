@@ -1,0 +1,3 @@
+pub mod LowestBy
+pub mod Promise
+pub mod Untaken

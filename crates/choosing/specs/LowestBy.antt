@@ -1,0 +1,26 @@
+-- The lowest index that may be split because of one rule, and the first room with two or more values. Assumes nothing.
+use Prim.Native.Nat.{ℕ, _+_}
+use mathlib.Core.Bool.{Bool, _&&_}
+use mathlib.Core.List.{List}
+use lib.Dec.{leb}
+use lib.ListN.{getD}
+use Rattle.lists.specs.Lowest.{lowest}
+use Rattle.sets.specs.Sets.{count}
+use Rattle.rules.specs.Rules.{Rule}
+use Rattle.steps.specs.Shrinking.{liveInRule}
+
+-- whether the room at an index has two or more values
+abbrev pub wide : List ℕ → ℕ → Bool
+wide rooms i = leb 2 (count (getD rooms i 0))
+
+-- the index of the first of the v rooms with two or more values, and v where there is none
+abbrev pub firstWide : List ℕ → ℕ → ℕ
+firstWide rooms v = lowest (wide rooms) v
+
+-- whether step 4 may split the room at an index because of the rule: it has two or more values, and its position is live in a part of the rule that is not settled
+abbrev pub splitsBy : List ℕ → Rule → ℕ → Bool
+splitsBy box rule i = wide box i && liveInRule box (i + 1) rule
+
+-- the lowest such index below a bound, and the bound where there is none
+abbrev pub lowestBy : List ℕ → Rule → ℕ → ℕ
+lowestBy box rule bound = lowest (splitsBy box rule) bound

@@ -1,3 +1,0 @@
-pub mod SettledEqualities
-pub mod SettledFields
-pub mod Unique

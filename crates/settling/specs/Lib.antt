@@ -1,2 +1,0 @@
-pub mod SomeRoom
-pub mod Promise

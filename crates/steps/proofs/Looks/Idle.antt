@@ -1,0 +1,3 @@
+pub mod ButForIdle
+pub mod Clauses
+pub mod Shrinking

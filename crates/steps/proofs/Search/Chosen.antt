@@ -1,0 +1,135 @@
+-- Step 4: where a box may be split (`chosen-splits`), and that a box from which nothing can be cut is settled exactly if there is no such place (`settled-exactly`). Assumes nothing.
+use mathlib.Core.Path.{_≡_, refl, sym, subst}
+use mathlib.Core.Logic.{_↔_, _⊎_}
+use mathlib.Core.Bool.{Bool, true, false}
+use mathlib.Core.List.{List}
+use Prim.Native.Nat.{ℕ, _+_, _-_, _≤_, _<_}
+use native.Mathlib.Nat.{le-refl}
+use native.Mathlib.Decide.{decLe, decLt}
+use native.Mathlib.Omega.{arith}
+use lib.Dec.{T, leb}
+use lib.ListN.{length, getD}
+use Rattle.lists.proofs.LowestLaws.{lowest-most, lowest-passes, lowest-before, lowest-none}
+use Rattle.lists.proofs.TestLaws.{both-hold, le-holds, true-test}
+use Rattle.sets.specs.Sets.{count}
+use Rattle.rules.specs.Rules.{Field}
+use Rattle.rules.specs.Meaning.{MeetsFields, Before, valueAt}
+use Rattle.steps.specs.Boxes.{roomAt, InBox, Rooms, firstHalf, otherHalf}
+use Rattle.steps.specs.Shrinking.{alive, round, settled, liveInFields}
+use Rattle.steps.specs.Search.{splittable, chosen}
+use Rattle.steps.proofs.Boxes.BoxLaws.{in-box-inside}
+use Rattle.steps.proofs.Boxes.BoxSizes.{first-half-inside}
+use Rattle.steps.proofs.Boxes.Lowered.{lowered, lowered-same, lowered-in-half, lowered-itself, halves-in-order}
+use Rattle.steps.proofs.Looks.LiveTests.{settled-none-live, live-in-range, live-in-fields}
+use Rattle.steps.proofs.Looks.FittingRules.{FieldsFit}
+use Rattle.steps.proofs.Looks.ShrinkLaws.{LiveInFields, round-steady, agree-where-live}
+
+-- a plan of a box: an assignment in it that meets all rules
+abbrev pub PlanIn : List Field → List ℕ → List ℕ → Type 0
+PlanIn fields box a = InBox a box × MeetsFields a fields
+
+-- the first in dictionary order of the assignments that are plans
+abbrev pub First : (List ℕ → Type 0) → List ℕ → Type 0
+First Plan a = Plan a × ((b : List ℕ) → Plan b → (a ≡ b) ⊎ Before a b)
+
+-- an index to split at: its room has two or more values, and the first plan of the first half comes before every plan of the other half
+pub record SplitAt (fields : List Field) (box : List ℕ) (i : ℕ) : Type 0 where
+  pub there : i < length box
+  pub two : 2 ≤ count (getD box i 0)
+  pub ordered : FieldsFit (length box) fields → (a b : List ℕ) → First (PlanIn fields (firstHalf i box)) a → PlanIn fields (otherHalf i box) b → Before a b
+
+module _ (fields : List Field) (box : List ℕ) where
+  -- ---- the chosen index
+
+  -- an index may be split exactly if its room has two or more values and its position is live in a part that is not settled
+  pub may-split : (i : ℕ) → T (splittable fields box i) ↔ ((2 ≤ count (getD box i 0)) × T (liveInFields fields box (i + 1)))
+  unfolding splittable
+  may-split i =
+      let wide = leb 2 (count (getD box i 0)) in
+      let both = both-hold wide (liveInFields fields box (i + 1)) in
+      (λ t. (le-holds 2 (count (getD box i 0)) .0 (both .0 t .0), both .0 t .1), λ h. both .1 (le-holds 2 (count (getD box i 0)) .1 (h .0), h .1))
+
+  -- the chosen index is that of a room, or the number of rooms
+  pub chosen-most : chosen fields box ≤ length box
+  unfolding chosen
+  chosen-most = lowest-most (splittable fields box) (length box)
+
+  -- the chosen room has two or more values
+  pub chosen-two : chosen fields box < length box → 2 ≤ count (getD box (chosen fields box) 0)
+  unfolding chosen
+  chosen-two h = may-split (chosen fields box) .0 (lowest-passes (splittable fields box) (length box) h) .0
+
+  -- a room before it has one value, or its position is live in nothing that is not settled
+  chosen-before : (p : ℕ) → p ≤ chosen fields box → LiveInFields fields box p → count (getD box (p - 1) 0) < 2
+  unfolding chosen
+  chosen-before p h live = go (decLt (count (getD box (p - 1) 0)) 2)
+    where
+      range : (1 ≤ p) × (p ≤ length box)
+      range = live-in-range fields box p live
+
+      same : p ≡ p - 1 + 1
+      same = omega (arith, range .0)
+
+      go : Dec (count (getD box (p - 1) 0) < 2) → count (getD box (p - 1) 0) < 2
+      go (yes one) = one
+      go (no more) =
+          let test = live-in-fields box p (range .0) (range .1) fields .1 live in
+          let may = may-split (p - 1) .1 (omega arith, subst (λ (q : ℕ). T (liveInFields fields box q)) same test) in
+          absurd (lowest-before (splittable fields box) (length box) (p - 1) (omega (arith, range .0)) may)
+
+  -- ---- the order of the halves
+
+  -- with the smallest values before the chosen index, a plan of the box is a plan
+  lowered-plan : (i : ℕ) → i ≤ chosen fields box → Rooms box → FieldsFit (length box) fields → (a : List ℕ) → InBox a box → InBox (lowered i box a) box
+      → MeetsFields a fields → MeetsFields (lowered i box a) fields
+  lowered-plan i h rooms fits a there low m = agree-where-live fields box a (lowered i box a) fits there low same .0 m
+    where
+      same : (p : ℕ) → LiveInFields fields box p → valueAt a p ≡ valueAt (lowered i box a) p
+      same p live = sym (lowered-same i box a (p - 1) rooms there (λ l. chosen-before p (omega (arith, live-in-range fields box p live .0)) live))
+
+  -- the chosen index is one to split at: the first plan of the first half has the smallest values before it
+  pub chosen-splits : Rooms box → chosen fields box < length box → SplitAt fields box (chosen fields box)
+  chosen-splits rooms there = record { there = there; two = chosen-two there; ordered = ordered }
+    where
+      i : ℕ
+      i = chosen fields box
+
+      ordered : FieldsFit (length box) fields → (a b : List ℕ) → First (PlanIn fields (firstHalf i box)) a → PlanIn fields (otherHalf i box) b → Before a b
+      ordered fits a b f g =
+          let low : InBox (lowered i box a) (firstHalf i box) = lowered-in-half box i rooms a (f .0 .0) in
+          let inner = first-half-inside box i rooms there (chosen-two there) in
+          let meets = lowered-plan i (le-refl i) rooms fits a (in-box-inside a (firstHalf i box) box (f .0 .0) inner) (in-box-inside (lowered i box a) (firstHalf i box) box low inner) (f .0 .1) in
+          subst (λ (c : List ℕ). Before c b) (lowered-itself box i rooms a (f .0 .0) (f .1 (lowered i box a) (low, meets))) (halves-in-order box i rooms there a b (f .0 .0) (g .0))
+
+  -- ---- the end of the search
+
+  -- in a settled box no room may be split
+  pub none-left : settled fields box ≡ true → chosen fields box ≡ length box
+  unfolding chosen
+  none-left e =
+      lowest-none (splittable fields box) (length box)
+      (λ i h t. settled-none-live fields box (i + 1) (true-test (settled fields box) e) (may-split i .0 t .1))
+
+  module _ (rooms : Rooms box) (fits : FieldsFit (length box) fields) (fixed : round fields box ≡ alive box) where
+    -- an unsettled box in which nothing is left to cut has a room to split: the search never stalls
+    pub never-stalls : settled fields box ≡ false → chosen fields box < length box
+    unfolding chosen roomAt
+    never-stalls u =
+        let s = round-steady fields box rooms fits fixed u in
+        let p = s .0 in
+        let test = live-in-fields box p (s .2) (s .3) fields .1 (s .1) in
+        let same : p ≡ p - 1 + 1 = omega (arith, s .2) in
+        let may = may-split (p - 1) .1 (s .4, subst (λ (q : ℕ). T (liveInFields fields box q)) same test) in
+        go p (s .2) (s .3) may (decLe (chosen fields box) (p - 1))
+      where
+        go : (p : ℕ) → 1 ≤ p → p ≤ length box → T (splittable fields box (p - 1)) → Dec (chosen fields box ≤ p - 1) → chosen fields box < length box
+        go p low high may (yes l) = omega arith
+        go p low high may (no l) = absurd (lowest-before (splittable fields box) (length box) (p - 1) (omega arith) may)
+
+    -- it is settled exactly if no room may be split
+    pub settled-exactly : (settled fields box ≡ true) ↔ (chosen fields box ≡ length box)
+    settled-exactly = (none-left, λ e. go e (settled fields box) refl)
+      where
+        go : chosen fields box ≡ length box → (b : Bool) → settled fields box ≡ b → settled fields box ≡ true
+        go e true t = t
+        go e false u = absurd (omega (arith, never-stalls u))

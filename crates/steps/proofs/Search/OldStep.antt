@@ -1,0 +1,3 @@
+pub mod CaseL
+pub mod FewerSplits
+pub mod IdleSearch
