@@ -28,22 +28,18 @@ use Rattle.clauses.specs.Scans.{atomsFrom, AtomsFrom, sharedIn}
 use Rattle.clauses.proofs.AtomsInTurn.{atoms-all, atoms-start, atoms-end, atoms-next, atom-fits, atoms-on-from}
 use Rattle.clauses.proofs.FrontRooms.{meets-front}
 use Rattle.clauses.proofs.ScanLaws.{shared-append, shared-here, shared-elsewhere}
-use Rattle.choosing.specs.LowestBy.{wide, splitsBy, lowestBy}
+use Rattle.choosing.specs.LowestBy.{Masks, wide, splitsBy, lowestBy}
 
 -- whether the position of an index is live in a clause
 abbrev pub liveAt : List ℕ → List Atom → ℕ → Bool
 liveAt box atoms i = isLive atoms (i + 1) (roomAt box (i + 1))
 
--- every room is a mask of 32 values
-abbrev pub Masks : List ℕ → Type 0
-Masks rooms = (i : ℕ) → getD rooms i 0 < 2 ^ 32
-
--- so are the first v
-masks-front : (v : ℕ) (rooms : List ℕ) → Masks rooms → Masks (take v rooms)
+-- where every room is a mask, so are the first v
+masks-front : (v : ℕ) (rooms : List ℕ) → Masks rooms → (i : ℕ) → getD (take v rooms) i 0 < 2 ^ 32
 masks-front v rooms masks i = go (decLt i v)
   where
     go : Dec (i < v) → getD (take v rooms) i 0 < 2 ^ 32
-    go (yes l) = subst (λ (room : ℕ). room < 2 ^ 32) (sym (getD-take v rooms i 0 l)) (masks i)
+    go (yes l) = subst (λ (room : ℕ). room < 2 ^ 32) (sym (getD-take v rooms i 0 l)) (masks .1 i)
     go (no l) =
         let past : length (take v rooms) ≤ i = omega (arith, length-take v rooms) in
         omega (arith, List·getD-eq-default (take v rooms) 0 past)
@@ -73,18 +69,16 @@ live-first box a more i = (
     go ne (no first) = inl (live-shares box (a ∷ []) i .1 first)
     go ne (yes e) = inr (live-shares box more i .1 (λ f. ne (both ∙ ap (λ (m : ℕ). union m (sharedIn box more (i + 1))) e ∙ empty-union _ ∙ f)))
 
--- of a clause the atoms from a place on are left: by those the lowest live position below `low` is that of the clause below `best`; and a lower one was met in rooms that are masks
+-- of a clause the atoms from a place on are left: by those the lowest live position below `low` is that of the clause below `best`
 pub record AtomsLeft (v len i : ℕ) (content rooms : List ℕ) (best low : ℕ) : Type 0 where
   pub from : AtomsFrom v len i content
   pub decide : lowest (liveAt (take v rooms) (atomsOf (len / 5) content)) best ≡ lowest (liveAt (take v rooms) (atomsFrom len i content)) low
-  pub masks : low < best → Masks rooms
 
 -- at the start all are left
 pub atoms-left-start : {v len : ℕ} {content : List ℕ} (rooms : List ℕ) (best : ℕ) → Atoms v len content → AtomsLeft v len 0 content rooms best best
 atoms-left-start {v} {len} {content} rooms best atoms = record {
   from = atoms-start atoms;
   decide = ap (λ (bs : List Atom). lowest (liveAt (take v rooms) bs) best) (sym (atoms-all len content));
-  masks = λ h. absurd (omega arith);
 }
 
 module _ {v len i : ℕ} {content rooms : List ℕ} {best low : ℕ} (going : AtomsLeft v len i content rooms best low) (there : i < len) {a : Atom} (here : a ≡ atomOf (drop i content))
@@ -110,26 +104,25 @@ module _ {v len i : ℕ} {content rooms : List ℕ} {best low : ℕ} (going : At
       (λ e. ne (meets ∙ meets-front v (a .position) (a .set) rooms (fits .0) (fits .1) ∙ sym (shared-here box a (a .position - 1 + 1) up) ∙ e))
 
   -- the lowest live position by the atoms from here on is that by those behind, below what this atom makes of it
-  next : {low′ : ℕ} → lowest (liveAt box (a ∷ [])) low ≡ low′ → (low′ < best → Masks rooms) → AtomsLeft v len (i + 5) content rooms best low′
-  next e masks = record {
+  next : {low′ : ℕ} → lowest (liveAt box (a ∷ [])) low ≡ low′ → AtomsLeft v len (i + 5) content rooms best low′
+  next e = record {
     from = atoms-on-from (going .from) there here;
     decide = going .decide ∙ ap (λ (bs : List Atom). lowest (liveAt box bs) low) (atoms-next (going .from) there here)
         ∙ lowest-same (liveAt box (a ∷ later)) (λ j. liveAt box (a ∷ []) j || liveAt box later j) low (λ j h. live-first box a later j)
         ∙ lowest-either (liveAt box (a ∷ [])) (liveAt box later) low ∙ ap (lowest (liveAt box later)) e;
-    masks = masks;
   }
     where
       later : List Atom
       later = atomsFrom len (i + 5) content
 
   -- where its position is lower and its room meets the set, it is that position
-  pub atoms-left-lower : a .position - 1 < low → (met ≡ 0 → ⊥) → Masks rooms → AtomsLeft v len (i + 5) content rooms best (a .position - 1)
-  atoms-left-lower l ne masks = next (lowest-only (liveAt box (a ∷ [])) low (a .position - 1) l (owned ne) (λ j t. own j t .0)) (λ h. masks)
+  pub atoms-left-lower : a .position - 1 < low → (met ≡ 0 → ⊥) → AtomsLeft v len (i + 5) content rooms best (a .position - 1)
+  atoms-left-lower l ne = next (lowest-only (liveAt box (a ∷ [])) low (a .position - 1) l (owned ne) (λ j t. own j t .0))
 
   -- else the atom changes nothing
   pub atoms-left-on : (low ≤ a .position - 1) ⊎ (met ≡ 0) → AtomsLeft v len (i + 5) content rooms best low
   atoms-left-on h =
-      next (lowest-none (liveAt box (a ∷ [])) low (λ j l t. ⊎-elim (λ m. omega (arith, own j t .0)) (λ none. own j t .1 none) h)) (going .masks)
+      next (lowest-none (liveAt box (a ∷ [])) low (λ j l t. ⊎-elim (λ m. omega (arith, own j t .0)) (λ none. own j t .1 none) h))
 
 -- at the end it is the lowest met
 atoms-left-end : {v len i : ℕ} {content rooms : List ℕ} {best low : ℕ} → AtomsLeft v len i content rooms best low → len ≤ i
@@ -167,7 +160,7 @@ module _ (box : List ℕ) (atoms : List Atom) (best : ℕ) where
   clause-none-live e = lowest-none (splitsBy box (clause atoms)) best (λ i h t. lowest-before (liveAt box atoms) best i (omega arith) (by-clause i .0 t .1))
 
   -- of one that is not settled it is the lowest live position
-  clause-open-live : Masks box → settledClause box atoms ≡ false → lowestBy box (clause atoms) best ≡ lowest (liveAt box atoms) best
+  clause-open-live : ((i : ℕ) → getD box i 0 < 2 ^ 32) → settledClause box atoms ≡ false → lowestBy box (clause atoms) best ≡ lowest (liveAt box atoms) best
   unfolding roomAt
   clause-open-live masks u = lowest-same (splitsBy box (clause atoms)) (liveAt box atoms) best (λ i h. (λ t. by-clause i .0 t .1, back i))
     where
@@ -191,8 +184,8 @@ module _ {v len i : ℕ} {content rooms : List ℕ} {best low : ℕ} (going : At
       sym (clause-none-live (take v rooms) all best (omega (arith, atoms-left-end going past, lowest-most (liveAt (take v rooms) all) best)))
 
   -- one that is not settled makes it the lowest that was met
-  pub clause-open : len ≤ i → low < best → settledClause (take v rooms) (atomsOf (len / 5) content) ≡ false → low ≡ lowestBy (take v rooms) (ruleOf Clause len content) best
+  pub clause-open : len ≤ i → Masks rooms → settledClause (take v rooms) (atomsOf (len / 5) content) ≡ false → low ≡ lowestBy (take v rooms) (ruleOf Clause len content) best
   unfolding ruleOf
-  clause-open past h u =
+  clause-open past masks u =
       let all = atomsOf (len / 5) content in
-      sym (clause-open-live (take v rooms) all best (masks-front v rooms (going .masks h)) u ∙ atoms-left-end going past)
+      sym (clause-open-live (take v rooms) all best (masks-front v rooms masks) u ∙ atoms-left-end going past)

@@ -1,13 +1,18 @@
--- The lowest index that may be split because of one rule, and the first room with two or more values. Assumes nothing.
-use Prim.Native.Nat.{ℕ, _+_}
+-- The lowest index that may be split because of one rule, and the first room with two or more values. The contracts of inner functions cite these. Assumes nothing.
+use Prim.Native.Nat.{ℕ, _+_, _^_, _<_}
+use mathlib.Core.Path.{_≡_}
 use mathlib.Core.Bool.{Bool, _&&_}
 use mathlib.Core.List.{List}
 use lib.Dec.{leb}
-use lib.ListN.{getD}
+use lib.ListN.{length, getD}
 use Rattle.lists.specs.Lowest.{lowest}
 use Rattle.sets.specs.Sets.{count}
 use Rattle.rules.specs.Rules.{Rule}
 use Rattle.steps.specs.Shrinking.{liveInRule}
+
+-- the rooms are 64 masks of 32 values
+abbrev pub Masks : List ℕ → Type 0
+Masks rooms = (length rooms ≡ 64) × ((i : ℕ) → getD rooms i 0 < 2 ^ 32)
 
 -- whether the room at an index has two or more values
 abbrev pub wide : List ℕ → ℕ → Bool

@@ -3,7 +3,7 @@
 ghost use mathlib.Core.Path.{_≡_};
 ghost use Prim.Native.Nat.{_≤_};
 ghost use Rattle.rules.specs.Sound.{SoundInput};
-ghost use Rattle.choosing.specs.LowestBy.{firstWide};
+ghost use Rattle.choosing.specs.LowestBy.{firstWide, Masks};
 ghost use Rattle.choosing.specs.Promise.{Chooses};
 use super::equality::lowest_by_equality;
 use clauses::settle::settled_united;
@@ -13,12 +13,14 @@ use rules::field::head_at;
 use rules::field::tag_of;
 use sets::Room;
 
-// The index of the first of the v rooms with two or more values; v where there is none.
+// The index of the first of the v rooms with two or more values; v where there is none. It also tells
+// that the rooms are 64 masks, which the language knows of a slice and not of an array behind a
+// reference.
 fn first_wide(rooms: &[u32; Room::POSITIONS], v: usize) -> usize
-    requires { ⌜ v ≤ 64 ⌝ }
-    ensures { λ r. ⌜ r ≡ firstWide (now (rooms .entry)) v ⌝ }
+    requires { ⌜ (1 ≤ v) × (v ≤ 64) ⌝ }
+    ensures { λ r. ⌜ (r ≡ firstWide (now (rooms .entry)) v) × Masks (now (rooms .entry)) ⌝ }
 {
-    // As a slice the rooms are known to be 64.
+    // As a slice the rooms are known to be 64 masks.
     let all: &[u32] = rooms;
     let mut i = 0;
     while i < v {
@@ -40,19 +42,15 @@ pub fn choose(input: &[u8], v: usize, rooms: &[u32; Room::POSITIONS]) -> usize
     requires { ⌜ SoundInput (now input) v ⌝ }
     ensures { λ r. ⌜ Chooses (now (input .entry)) v (now (rooms .entry)) r ⌝ }
 {
-    // As a slice the rooms are known to be 64 masks.
-    let all: &[u32] = rooms;
     let first = first_wide(rooms, v);
     let mut best = v;
     let mut at = 5;
     'fields: while at < input.len() && first < best {
         let head = head_at(input, at);
-        let kind = tag_of(head.tag);
         let len = head.length;
-        let from = at + 3;
-        let content = &input[from..];
-        at = from + len;
-        match kind {
+        let content = &input[at + 3..];
+        at += 3 + len;
+        match tag_of(head.tag) {
             Tag::Header => {}
             Tag::Clause => {
                 let mut low = best;
@@ -60,7 +58,7 @@ pub fn choose(input: &[u8], v: usize, rooms: &[u32; Room::POSITIONS]) -> usize
                 while i < len {
                     let atom = atom_at(content, i);
                     let p = atom.position as usize - 1;
-                    let room = Room { mask: all[p] };
+                    let room = Room { mask: rooms[p] };
                     let set = Room { mask: atom.set };
                     if room.inside(set) {
                         continue 'fields;

@@ -12,7 +12,7 @@ use Rattle.steps.specs.Search.{splittable, chosen, search, searched}
 use Rattle.steps.specs.Table.{startOf, planned, ofReading, replyOf}
 use Rattle.steps.specs.Cases.{Case, case, starred, case-a, case-b, case-c, case-d, case-e, case-f, case-g, case-h, case-i, case-j, case-k, case-l}
 
--- the reply of a case is the one that 01 gives
+-- the reply of a case is the one that it names
 abbrev pub Holds : Case → Type 0
 Holds c = replyOf (c .bytes) 64 (c .allowed) ≡ c .reply
 

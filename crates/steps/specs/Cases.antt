@@ -1,9 +1,9 @@
--- 01's twelve starred cases: the bytes of each file, the splits allowed, and the reply. Assumes nothing.
+-- 01's twelve starred cases: the bytes of each file, the splits allowed, and the reply; that of l is the one of 02 (R-2). Assumes nothing.
 use Prim.Native.Nat.{ℕ}
 use mathlib.Core.List.{List, [], _∷_}
 use Rattle.steps.specs.Reply.{Reply}
 
--- a file's bytes, the splits allowed, and the reply that 01 gives
+-- a file's bytes, the splits allowed, and the reply
 pub record Case : Type 0 where
   pub bytes : List ℕ
   pub allowed : ℕ
@@ -91,7 +91,7 @@ case-k =
     case (1 ∷ 0 ∷ 2 ∷ 2 ∷ 2 ∷ 2 ∷ 0 ∷ 10 ∷ 1 ∷ 0 ∷ 0 ∷ 0 ∷ 1 ∷ 2 ∷ 0 ∷ 0 ∷ 0 ∷ 1 ∷ [])
     1000000 0 1 0 (1 ∷ 1 ∷ [])
 
--- l. the four clauses on positions 2 and 3 with one-value sets
+-- l. the four clauses on positions 2 and 3 with one-value sets; 1 and 2 by R-2, where 01 had 3 and 4
 unfoldable pub case-l : Case
 unfolding case
 case-l =

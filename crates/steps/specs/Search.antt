@@ -1,4 +1,4 @@
--- Steps 3 and 4 of the search: dead ends, plans, splits. Assumes nothing.
+-- Steps 3 and 4 of the search: dead ends, plans, splits. Step 4 is that of 02 (R-2). Assumes nothing.
 use Prim.Native.Nat.{ℕ, zero, suc, _+_}
 use mathlib.Core.Bool.{Bool, true, false, _&&_}
 use mathlib.Core.List.{List}

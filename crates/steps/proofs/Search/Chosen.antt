@@ -5,7 +5,7 @@ use mathlib.Core.Bool.{Bool, true, false}
 use mathlib.Core.List.{List}
 use Prim.Native.Nat.{ℕ, _+_, _-_, _≤_, _<_}
 use native.Mathlib.Nat.{le-refl}
-use native.Mathlib.Decide.{decLe, decLt}
+use native.Mathlib.Decide.{decLt}
 use native.Mathlib.Omega.{arith}
 use lib.Dec.{T, leb}
 use lib.ListN.{length, getD}
@@ -59,10 +59,10 @@ module _ (fields : List Field) (box : List ℕ) where
   unfolding chosen
   chosen-two h = may-split (chosen fields box) .0 (lowest-passes (splittable fields box) (length box) h) .0
 
-  -- a room before it has one value, or its position is live in nothing that is not settled
-  chosen-before : (p : ℕ) → p ≤ chosen fields box → LiveInFields fields box p → count (getD box (p - 1) 0) < 2
+  -- a position that is live in a part that is not settled and has two or more values is the chosen one, or behind it
+  pub chosen-at-most : (p : ℕ) → LiveInFields fields box p → 2 ≤ count (getD box (p - 1) 0) → chosen fields box < p
   unfolding chosen
-  chosen-before p h live = go (decLt (count (getD box (p - 1) 0)) 2)
+  chosen-at-most p live two = go (decLt (chosen fields box) p)
     where
       range : (1 ≤ p) × (p ≤ length box)
       range = live-in-range fields box p live
@@ -70,12 +70,19 @@ module _ (fields : List Field) (box : List ℕ) where
       same : p ≡ p - 1 + 1
       same = omega (arith, range .0)
 
+      go : Dec (chosen fields box < p) → chosen fields box < p
+      go (yes l) = l
+      go (no l) =
+          let test = subst (λ (q : ℕ). T (liveInFields fields box q)) same (live-in-fields box p (range .0) (range .1) fields .1 live) in
+          absurd (lowest-before (splittable fields box) (length box) (p - 1) (omega (arith, range .0)) (may-split (p - 1) .1 (two, test)))
+
+  -- so before the chosen index a position that is live in such a part has one value
+  chosen-before : (p : ℕ) → p ≤ chosen fields box → LiveInFields fields box p → count (getD box (p - 1) 0) < 2
+  chosen-before p h live = go (decLt (count (getD box (p - 1) 0)) 2)
+    where
       go : Dec (count (getD box (p - 1) 0) < 2) → count (getD box (p - 1) 0) < 2
       go (yes one) = one
-      go (no more) =
-          let test = live-in-fields box p (range .0) (range .1) fields .1 live in
-          let may = may-split (p - 1) .1 (omega arith, subst (λ (q : ℕ). T (liveInFields fields box q)) same test) in
-          absurd (lowest-before (splittable fields box) (length box) (p - 1) (omega (arith, range .0)) may)
+      go (no more) = absurd (omega (arith, chosen-at-most p live (omega arith)))
 
   -- ---- the order of the halves
 
@@ -113,18 +120,8 @@ module _ (fields : List Field) (box : List ℕ) where
   module _ (rooms : Rooms box) (fits : FieldsFit (length box) fields) (fixed : round fields box ≡ alive box) where
     -- an unsettled box in which nothing is left to cut has a room to split: the search never stalls
     pub never-stalls : settled fields box ≡ false → chosen fields box < length box
-    unfolding chosen roomAt
-    never-stalls u =
-        let s = round-steady fields box rooms fits fixed u in
-        let p = s .0 in
-        let test = live-in-fields box p (s .2) (s .3) fields .1 (s .1) in
-        let same : p ≡ p - 1 + 1 = omega (arith, s .2) in
-        let may = may-split (p - 1) .1 (s .4, subst (λ (q : ℕ). T (liveInFields fields box q)) same test) in
-        go p (s .2) (s .3) may (decLe (chosen fields box) (p - 1))
-      where
-        go : (p : ℕ) → 1 ≤ p → p ≤ length box → T (splittable fields box (p - 1)) → Dec (chosen fields box ≤ p - 1) → chosen fields box < length box
-        go p low high may (yes l) = omega arith
-        go p low high may (no l) = absurd (lowest-before (splittable fields box) (length box) (p - 1) (omega arith) may)
+    unfolding roomAt
+    never-stalls u = let s = round-steady fields box rooms fits fixed u in omega (arith, s .3, chosen-at-most (s .0) (s .1) (s .4))
 
     -- it is settled exactly if no room may be split
     pub settled-exactly : (settled fields box ≡ true) ↔ (chosen fields box ≡ length box)

@@ -1,4 +1,4 @@
--- `choosing::choose::first_wide` meets its contract. The loop: no room before `i` has two or more values; the measure is the rooms left. Assumes nothing.
+-- `choosing::choose::first_wide` meets its contract. The loop: no room before `i` has two or more values, and once one was read all are known to be masks; the measure is the rooms left. Assumes nothing.
 use mathlib.Core.Path.{_≡_, sym, subst}
 use mathlib.Core.List.{List}
 use Prim.Native.Nat.{ℕ, _+_, _-_, _≤_, _<_}
@@ -9,12 +9,12 @@ use lib.ListN.{getD}
 use Rattle.lists.proofs.LowestLaws.{lowest-is}
 use Rattle.lists.proofs.TestLaws.{le-holds}
 use Rattle.sets.specs.Sets.{count}
-use Rattle.choosing.specs.LowestBy.{wide}
+use Rattle.choosing.specs.LowestBy.{Masks, wide}
 use Rattle.choosing.proofs.choose.first_wide.Statement.{statement}
 use Rattle.choosing.proofs.choose.first_wide.Tie as tie
 
 abbrev Inv-loop : tie.InvT-loop
-Inv-loop rooms v all i₀ i = (i ≤ v) × ((j : ℕ) → j < i → T (wide rooms j) → ⊥)
+Inv-loop rooms v all i₀ i = (i ≤ v) × ((j : ℕ) → j < i → T (wide rooms j) → ⊥) × (1 ≤ i → Masks rooms)
 
 abbrev μ-loop : tie.MeasureT-loop
 μ-loop rooms v all i₀ i = v - i
@@ -31,7 +31,7 @@ more-narrow rooms i narrow one j h t = go (decLt j i)
         omega arith
 
 loop-holds : tie.Need-loop-holds Inv-loop μ-loop
-loop-holds c = (omega arith, λ j h t. omega arith)
+loop-holds c = (omega arith, λ j h t. omega arith, λ h. absurd (omega arith))
 
 mul-if1 : tie.Need-mul-if1 Inv-loop μ-loop
 mul-if1 c = omega arith
@@ -47,7 +47,7 @@ returns c =
     let here = c .before .before .before .before in
     let a = here .before .before .args in
     let two : 2 ≤ count (getD (a .rooms .now) (here .loop .i) 0) = omega arith in
-    sym (lowest-is (wide (a .rooms .now)) (a .v) (here .loop .i) (here .loop .inv .0) (λ l. le-holds 2 (count (getD (a .rooms .now) (here .loop .i) 0)) .1 two) (here .loop .inv .1))
+    (sym (lowest-is (wide (a .rooms .now)) (a .v) (here .loop .i) (here .loop .inv .0) (λ l. le-holds 2 (count (getD (a .rooms .now) (here .loop .i) 0)) .1 two) (here .loop .inv .1)), (omega arith, λ i. c .before .before .shared-slice-known .given i .fits))
 
 add-i : tie.Need-add-i Inv-loop μ-loop
 add-i c = omega arith
@@ -60,12 +60,12 @@ loop-again c =
     let here = c .before .before .before .before in
     let a = here .before .before .args in
     let one : count (getD (a .rooms .now) (here .loop .i) 0) < 2 = omega arith in
-    (omega arith, more-narrow (a .rooms .now) (here .loop .i) (here .loop .inv .1) one)
+    (omega arith, more-narrow (a .rooms .now) (here .loop .i) (here .loop .inv .1) one, λ h. (omega arith, λ i. c .before .before .shared-slice-known .given i .fits))
 
 returns-2 : tie.Need-returns-2 Inv-loop μ-loop
 returns-2 c =
     let a = c .before .before .before .args in
-    sym (lowest-is (wide (a .rooms .now)) (a .v) (c .before .loop .i) (c .before .loop .inv .0) (λ l. absurd (omega arith)) (c .before .loop .inv .1))
+    (sym (lowest-is (wide (a .rooms .now)) (a .v) (c .before .loop .i) (c .before .loop .inv .0) (λ l. absurd (omega arith)) (c .before .loop .inv .1)), c .before .loop .inv .2 (omega arith))
 
 pub first-wide-spec : {M : Type 1} → statement M
 first-wide-spec =

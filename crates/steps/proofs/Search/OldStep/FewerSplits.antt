@@ -5,7 +5,7 @@ use mathlib.Core.List.{List}
 use Prim.Native.Nat.{ℕ, zero, suc, _+_, _-_, _≤_, _<_}
 use native.Mathlib.Decide.{ℕ-discrete, decLt}
 use native.Mathlib.Omega.{arith}
-use lib.Dec.{T, leb}
+use lib.Dec.{leb}
 use lib.ListN.{length, getD, set}
 use lib.Seq.{getD-set-same, getD-set-other}
 use borrow.Author.Tests.{lt-leb}
@@ -16,19 +16,18 @@ use Rattle.sets.proofs.Smallest.{smallest-range, smallest-of-single}
 use Rattle.rules.specs.Rules.{Field, File}
 use Rattle.rules.specs.Writing.{fieldsOf, Within}
 use Rattle.steps.specs.Boxes.{roomAt, BoxInside, openValues, Rooms, firstHalf, otherHalf}
-use Rattle.steps.specs.Shrinking.{alive, round, liveInFields}
+use Rattle.steps.specs.Shrinking.{alive, round}
 use Rattle.steps.specs.Reply.{Reply}
-use Rattle.steps.specs.Search.{splittable, chosen, ifNone, explored}
+use Rattle.steps.specs.Search.{chosen, ifNone, explored}
 use Rattle.steps.specs.OldStep.{lowestWide, exploreWide, exploredWide}
 use Rattle.steps.specs.Table.{startOf, needed}
 use Rattle.steps.proofs.Boxes.BoxLaws.{box-inside-refl, box-inside-antisymmetric, rooms-at}
 use Rattle.steps.proofs.Boxes.BoxSizes.{open-inside}
 use Rattle.steps.proofs.Boxes.BoxSizes.{first-half-rooms, other-half-rooms, first-half-inside, other-half-inside, first-half-falls, other-half-falls}
-use Rattle.steps.proofs.Looks.LiveTests.{live-in-range, live-in-fields}
 use Rattle.steps.proofs.Looks.ShrinkLaws.{LiveInFields, shrunk-inside, fixed-inside-shrunk}
 use Rattle.steps.proofs.Demands.{start}
 use Rattle.steps.proofs.Search.Allowance.{walk-more}
-use Rattle.steps.proofs.Search.Chosen.{may-split, chosen-two}
+use Rattle.steps.proofs.Search.Chosen.{chosen-two, chosen-at-most}
 use Rattle.steps.proofs.Search.OldStep.IdleSearch.{SameCounts, SameSmallest, Idle, walks-same}
 use Rattle.steps.proofs.Search.Says.{FitsBox, fits-inside, inner-fits, splits-somewhere}
 use Rattle.steps.proofs.Search.Split.{none-later, other-stays, after-none}
@@ -74,15 +73,11 @@ IdleIndex fields box i = (p : ℕ) → LiveInFields fields box p → p - 1 ≡ i
 -- where the old index is not the chosen one, its position is idle
 wide-idle : (fields : List Field) (box : List ℕ) → chosen fields box < length box → (lowestWide box ≡ chosen fields box → ⊥)
     → IdleIndex fields box (lowestWide box)
-unfolding chosen
 wide-idle fields box l apart p live e =
-    let range = live-in-range fields box p live in
     let i = lowestWide box in
     let low = wide-lowest box (chosen fields box) (chosen-two fields box l) in
-    let here : p ≡ i + 1 = omega (arith, range .0) in
-    let test = subst (λ (q : ℕ). T (liveInFields fields box q)) here (live-in-fields box p (range .0) (range .1) fields .1 live) in
-    let less : i < chosen fields box = omega arith in
-    lowest-before (splittable fields box) (length box) i less (may-split fields box i .1 (wide-two box (omega arith), test))
+    let two = subst (λ (j : ℕ). 2 ≤ count (getD box j 0)) (sym e) (wide-two box (omega arith)) in
+    apart (omega (arith, e, chosen-at-most fields box p live two))
 
 -- a box with a smaller room there is the box but for idle positions
 set-idle : (fields : List Field) (box : List ℕ) (i r : ℕ) → IdleIndex fields box i → Rooms box → Rooms (set box i r) → BoxInside (set box i r) box
