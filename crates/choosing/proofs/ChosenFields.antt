@@ -10,7 +10,7 @@ use lib.ListN.{length, getD, take}
 use lib.Seq.{getD-take, length-take-le}
 use Rattle.lists.specs.Lowest.{lowest}
 use Rattle.lists.proofs.LowestLaws.{lowest-most, lowest-before, lowest-none, lowest-same, lowest-either}
-use Rattle.lists.proofs.TestLaws.{both-hold, either-holds, le-holds}
+use Rattle.lists.proofs.TestLaws.{either-holds, le-holds}
 use Rattle.rules.specs.declared.field.Head.{Head}
 use Rattle.rules.specs.declared.field.Tag.{Tag}
 use Rattle.sets.specs.Sets.{count}
@@ -21,8 +21,10 @@ use Rattle.rules.specs.Walk.{Walk}
 use Rattle.rules.proofs.Reading.WalkLaws.{walk-start, walk-end, FieldHere}
 use Rattle.steps.specs.Shrinking.{liveInRule, liveInFields, someOf}
 use Rattle.steps.specs.Search.{splittable, chosen}
+use Rattle.steps.proofs.Boxes.BoxSizes.{wide-and}
 use Rattle.steps.proofs.Search.Chosen.{may-split}
-use Rattle.choosing.specs.LowestBy.{wide, firstWide, splitsBy, lowestBy}
+use Rattle.steps.specs.Boxes.{wide}
+use Rattle.choosing.specs.LowestBy.{firstWide, splitsBy, lowestBy}
 
 -- what the fields from a place on leave to be split, below the best index so far, is what is chosen
 pub record FieldsLeft (s : List ℕ) (v : ℕ) (rooms : List ℕ) (best at : ℕ) : Type 0 where
@@ -65,10 +67,7 @@ lowest-fields box f fs best =
     ∙ lowest-either (splitsBy box (f .rule)) (splittable fs box) best
   where
     by-field : (i : ℕ) → T (splitsBy box (f .rule) i) ↔ ((2 ≤ count (getD box i 0)) × T (liveInRule box (i + 1) (f .rule)))
-    by-field i =
-        let both = both-hold (wide box i) (liveInRule box (i + 1) (f .rule)) in
-        let two = le-holds 2 (count (getD box i 0)) in
-        (λ t. (two .0 (both .0 t .0), both .0 t .1), λ h. both .1 (two .1 (h .0), h .1))
+    by-field i = wide-and box i (liveInRule box (i + 1) (f .rule))
 
     either : (i : ℕ) → T (splitsBy box (f .rule) i || splittable fs box i) ↔ (T (splitsBy box (f .rule) i) ⊎ T (splittable fs box i))
     either i = either-holds (splitsBy box (f .rule) i) (splittable fs box i)

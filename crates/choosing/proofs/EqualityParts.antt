@@ -14,7 +14,7 @@ use Rattle.sets.proofs.Smallest.{common-shared, partly-inside-two}
 use Rattle.sets.proofs.Values.{member-of-listed, listed-of-member}
 use Rattle.lists.specs.Lists.{Some}
 use Rattle.lists.proofs.ListLaws.{some-of-listed, listed-of-some, some-over-map, some-over-append, some-same}
-use Rattle.lists.proofs.TestLaws.{both-hold, eq-holds, le-holds, fails-false}
+use Rattle.lists.proofs.TestLaws.{both-hold, eq-holds, fails-false}
 use Rattle.rules.specs.Rules.{equality}
 use Rattle.rules.specs.Parts.{Part, oneOf, atomIn, eachInside, eachTaken, equalityParts, partsOf}
 use Rattle.steps.specs.Boxes.{roomAt}
@@ -22,7 +22,8 @@ use Rattle.steps.specs.Shrinking.{united, isLive, settledClause, someOf, liveUn
 use Rattle.steps.proofs.Looks.LiveLaws.{member-united}
 use Rattle.steps.proofs.Looks.LiveTests.{some-of-holds}
 use Rattle.steps.proofs.Looks.ClauseLaws.{ShowsSettled, settled-some}
-use Rattle.choosing.specs.LowestBy.{wide, splitsBy}
+use Rattle.steps.proofs.Boxes.BoxSizes.{wide-and}
+use Rattle.choosing.specs.LowestBy.{splitsBy}
 use Rattle.choosing.specs.Untaken.{untaken}
 use Rattle.choosing.proofs.UntakenLaws.{member-untaken}
 
@@ -181,7 +182,7 @@ module _ (box : List ℕ) (m : ℕ) (low : m < 2 ^ 32) (ps : List ℕ) (masks : 
 
       forth : T (splitsBy box (equality m ps) i) → T (someOf (splitsAt box m (untaken box m ps) i) ps)
       forth t =
-          let splits = live-splits box m low ps masks (i + 1) (both-hold (wide box i) (liveInRule box (i + 1) (equality m ps)) .0 t .1) in
+          let splits = live-splits box m low ps masks (i + 1) (wide-and box i (liveInRule box (i + 1) (equality m ps)) .0 t .1) in
           some-of-holds (splitsAt box m (untaken box m ps) i) ps .1 (some-of-listed Here (splits .0) (here (i + 1) (splits .0) .1 (refl, splits .1)))
 
       back : T (someOf (splitsAt box m (untaken box m ps) i) ps) → T (splitsBy box (equality m ps) i)
@@ -191,7 +192,5 @@ module _ (box : List ℕ) (m : ℕ) (low : m < 2 ^ 32) (ps : List ℕ) (masks : 
           let both = here q (found .1) .0 (found .2) in
           let live = splits-live box m low ps masks q (found .1, both .1) in
           let room : roomAt box q ≡ getD box i 0 = ap (λ (k : ℕ). getD box (k - 1) 0) (both .0) ∙ ap (λ (k : ℕ). getD box k 0) (omega arith) in
-          both-hold (wide box i) (liveInRule box (i + 1) (equality m ps)) .1 (
-            le-holds 2 (count (getD box i 0)) .1 (subst (λ (r : ℕ). 2 ≤ count r) room (live .0)),
-            subst (λ (k : ℕ). T (liveInRule box k (equality m ps))) (both .0) (live .1),
-          )
+          wide-and box i (liveInRule box (i + 1) (equality m ps)) .1
+          (subst (λ (r : ℕ). 2 ≤ count r) room (live .0), subst (λ (k : ℕ). T (liveInRule box k (equality m ps))) (both .0) (live .1))

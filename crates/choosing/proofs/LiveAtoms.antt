@@ -11,7 +11,7 @@ use lib.ListN.{length, getD, take, drop, length-take, List·getD-eq-default}
 use lib.Seq.{getD-take}
 use Rattle.lists.specs.Lowest.{lowest}
 use Rattle.lists.proofs.LowestLaws.{lowest-most, lowest-none, lowest-only, lowest-same, lowest-either, lowest-before}
-use Rattle.lists.proofs.TestLaws.{both-hold, either-holds, le-holds, fails-false}
+use Rattle.lists.proofs.TestLaws.{both-hold, either-holds, fails-false}
 use Rattle.sets.specs.Sets.{union, common, isEmpty, count}
 use Rattle.sets.proofs.Sameness.{empty-test}
 use Rattle.sets.proofs.Unions.{empty-union, common-empty, left-empty, right-empty}
@@ -23,12 +23,13 @@ use Rattle.rules.specs.Parts.{partsOf}
 use Rattle.rules.specs.Reading.{atomOf, atomsOf, ruleOf}
 use Rattle.steps.specs.Boxes.{roomAt}
 use Rattle.steps.specs.Shrinking.{united, isLive, settledClause, someOf}
+use Rattle.steps.proofs.Boxes.BoxSizes.{wide-and}
 use Rattle.steps.proofs.Looks.ClauseLaws.{live-two}
 use Rattle.clauses.specs.Scans.{atomsFrom, AtomsFrom, sharedIn}
 use Rattle.clauses.proofs.AtomsInTurn.{atoms-all, atoms-start, atoms-end, atoms-next, atom-fits, atoms-on-from}
 use Rattle.clauses.proofs.FrontRooms.{meets-front}
 use Rattle.clauses.proofs.ScanLaws.{shared-append, shared-here, shared-elsewhere}
-use Rattle.choosing.specs.LowestBy.{Masks, wide, splitsBy, lowestBy}
+use Rattle.choosing.specs.LowestBy.{Masks, splitsBy, lowestBy}
 
 -- whether the position of an index is live in a clause
 abbrev pub liveAt : List ℕ → List Atom → ℕ → Bool
@@ -136,13 +137,13 @@ atoms-left-end {v} {len} {i} {content} {rooms} {best} {low} going past =
 
 module _ (box : List ℕ) (atoms : List Atom) (best : ℕ) where
   -- an index may be split because of a clause: its room has two or more values, its position is live, and the clause is not settled
-  by-clause : (i : ℕ) → T (splitsBy box (clause atoms) i) ↔ (T (wide box i) × T (liveAt box atoms i) × (settledClause box atoms ≡ false))
+  by-clause : (i : ℕ) → T (splitsBy box (clause atoms) i) ↔ ((2 ≤ count (getD box i 0)) × T (liveAt box atoms i) × (settledClause box atoms ≡ false))
   unfolding partsOf someOf
   by-clause i = (
-    λ t. let first = both-hold (wide box i) (live && left || false) .0 t in
+    λ t. let first = wide-and box i (live && left || false) .0 t in
         let both = both-hold live left .0 (⊎-elim (λ u. u) absurd (either-holds (live && left) false .0 (first .1))) in
         (first .0, both .0, fails-false (settledClause box atoms) .0 (both .1)),
-    λ h. both-hold (wide box i) (live && left || false) .1 (h .0, either-holds (live && left) false .1 (inl (both-hold live left .1 (h .1, fails-false (settledClause box atoms) .1 (h .2))))),
+    λ h. wide-and box i (live && left || false) .1 (h .0, either-holds (live && left) false .1 (inl (both-hold live left .1 (h .1, fails-false (settledClause box atoms) .1 (h .2))))),
   )
     where
       live : Bool
@@ -168,7 +169,7 @@ module _ (box : List ℕ) (atoms : List Atom) (best : ℕ) where
       back i t =
           let same : i + 1 - 1 ≡ i = omega arith in
           let two = live-two atoms box (i + 1) (masks (i + 1 - 1)) u t in
-          by-clause i .1 (le-holds 2 (count (getD box i 0)) .1 (subst (λ (j : ℕ). 2 ≤ count (getD box j 0)) same two), t, u)
+          by-clause i .1 (subst (λ (j : ℕ). 2 ≤ count (getD box j 0)) same two, t, u)
 
 module _ {v len i : ℕ} {content rooms : List ℕ} {best low : ℕ} (going : AtomsLeft v len i content rooms best low) where
   -- a clause that is settled leaves the best as it is

@@ -3,20 +3,15 @@ use Prim.Native.Nat.{ℕ, _+_, _^_, _<_}
 use mathlib.Core.Path.{_≡_}
 use mathlib.Core.Bool.{Bool, _&&_}
 use mathlib.Core.List.{List}
-use lib.Dec.{leb}
 use lib.ListN.{length, getD}
 use Rattle.lists.specs.Lowest.{lowest}
-use Rattle.sets.specs.Sets.{count}
 use Rattle.rules.specs.Rules.{Rule}
+use Rattle.steps.specs.Boxes.{wide}
 use Rattle.steps.specs.Shrinking.{liveInRule}
 
 -- the rooms are 64 masks of 32 values
 abbrev pub Masks : List ℕ → Type 0
 Masks rooms = (length rooms ≡ 64) × ((i : ℕ) → getD rooms i 0 < 2 ^ 32)
-
--- whether the room at an index has two or more values
-abbrev pub wide : List ℕ → ℕ → Bool
-wide rooms i = leb 2 (count (getD rooms i 0))
 
 -- the index of the first of the v rooms with two or more values, and v where there is none
 abbrev pub firstWide : List ℕ → ℕ → ℕ

@@ -1,5 +1,5 @@
 // Where to split a box: a nested scan over fields and atoms, which leaves a field at the first atom
-// that shows it settled. The contracts cite specs/Promise.antt and specs/Lowest.antt.
+// that shows it settled. The contracts cite specs/Promise.antt and specs/LowestBy.antt.
 ghost use mathlib.Core.Path.{_≡_};
 ghost use Prim.Native.Nat.{_≤_};
 ghost use Rattle.rules.specs.Sound.{SoundInput};

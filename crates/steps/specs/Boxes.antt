@@ -1,8 +1,9 @@
 -- Boxes of rooms: the values still open for each position. Assumes nothing.
 use Prim.Native.Nat.{ℕ, _+_, _*_, _-_, _^_, _<_}
 use mathlib.Core.Path.{_≡_}
+use mathlib.Core.Bool.{Bool}
 use mathlib.Core.List.{List, [], _∷_, map}
-use lib.Dec.{T}
+use lib.Dec.{T, leb}
 use lib.ListN.{getD, set, replicate}
 use Rattle.sets.specs.Sets.{member, full, single, inside, count, smallest, others}
 use Rattle.lists.specs.Lists.{Every}
@@ -48,6 +49,10 @@ BoxInside (r ∷ a) (s ∷ b) = T (inside r s) × BoxInside a b
 -- rooms as they are before and after every step: masks of 32 values, none of them empty
 abbrev pub Rooms : List ℕ → Type 0
 Rooms box = Every (λ room. (room < 2 ^ 32) × (room ≡ 0 → ⊥)) box
+
+-- whether the room at an index has two or more values
+abbrev pub wide : List ℕ → ℕ → Bool
+wide box i = leb 2 (count (getD box i 0))
 
 -- the smallest value of each room
 unfoldable pub smallestOf : List ℕ → List ℕ

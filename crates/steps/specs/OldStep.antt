@@ -2,18 +2,17 @@
 use Prim.Native.Nat.{ℕ, zero, suc, _+_}
 use mathlib.Core.List.{List}
 use lib.Dec.{leb}
-use lib.ListN.{length, getD}
+use lib.ListN.{length}
 use Rattle.lists.specs.Lowest.{lowest}
-use Rattle.sets.specs.Sets.{count}
 use Rattle.rules.specs.Rules.{Field}
-use Rattle.steps.specs.Boxes.{openValues, smallestOf, firstHalf, otherHalf}
+use Rattle.steps.specs.Boxes.{openValues, wide, smallestOf, firstHalf, otherHalf}
 use Rattle.steps.specs.Shrinking.{ifAlive, ifTest, shrunk, settled}
 use Rattle.steps.specs.Reply.{Reply, plan, none, stalled}
 use Rattle.steps.specs.Search.{ifNone}
 
 -- the lowest index of a room with two or more values, and the number of rooms where there is none
 unfoldable pub lowestWide : List ℕ → ℕ
-lowestWide box = lowest (λ i. leb 2 (count (getD box i 0))) (length box)
+lowestWide box = lowest (wide box) (length box)
 
 -- `explore` with that index in place of the chosen one
 unfoldable pub exploreWide : ℕ → List Field → List ℕ → ℕ → ℕ → Reply

@@ -3,17 +3,16 @@ use Prim.Native.Nat.{ℕ, zero, suc, _+_}
 use mathlib.Core.Bool.{Bool, true, false, _&&_}
 use mathlib.Core.List.{List}
 use lib.Dec.{eqb, leb}
-use lib.ListN.{length, getD}
+use lib.ListN.{length}
 use Rattle.lists.specs.Lowest.{lowest}
-use Rattle.sets.specs.Sets.{count}
 use Rattle.rules.specs.Rules.{Field}
-use Rattle.steps.specs.Boxes.{openValues, smallestOf, firstHalf, otherHalf}
+use Rattle.steps.specs.Boxes.{openValues, wide, smallestOf, firstHalf, otherHalf}
 use Rattle.steps.specs.Shrinking.{ifAlive, ifTest, shrunk, settled, liveInFields}
 use Rattle.steps.specs.Reply.{Reply, plan, none, undecided, stalled}
 
 -- whether step 4 may split the room at an index: it has two or more values, and its position is live in some part that is not settled
 unfoldable pub splittable : List Field → List ℕ → ℕ → Bool
-splittable fields box i = leb 2 (count (getD box i 0)) && liveInFields fields box (i + 1)
+splittable fields box i = wide box i && liveInFields fields box (i + 1)
 
 -- the lowest index that step 4 may split, and the number of rooms where there is none
 unfoldable pub chosen : List Field → List ℕ → ℕ

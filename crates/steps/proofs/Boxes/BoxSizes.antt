@@ -1,7 +1,7 @@
--- Laws of the number of open values and the number of assignments of a box, and of its two halves. Assumes nothing.
+-- Laws of the number of open values and the number of assignments of a box, of its two halves, and of its smallest values. Assumes nothing.
 use mathlib.Core.Path.{_≡_, refl, sym, ap, ap₂, _∙_}
-use mathlib.Core.Logic.{_↔_, _⊎_, inl, inr, ⊎-elim, ⊎-map}
-use mathlib.Core.Bool.{not}
+use mathlib.Core.Logic.{_↔_, Iff·rfl, Iff·trans, Iff·and, _⊎_, inl, inr, ⊎-elim, ⊎-map}
+use mathlib.Core.Bool.{Bool, _&&_}
 use mathlib.Core.List.{List, [], _∷_}
 use Prim.Native.Nat.{ℕ, zero, suc, _+_, _*_, _^_, _≤_, _<_}
 use native.Mathlib.Nat.{le-refl, add-mul, mul-add, mul-le-mul, mul-pos, pow-zero, pow-succ'}
@@ -11,14 +11,15 @@ use native.Mathlib.Omega.{arith}
 use lib.Dec.{T}
 use lib.ListN.{length, getD, set, length-replicate}
 use lib.Seq.{getD-set-same}
-use Rattle.sets.specs.Sets.{full, single, inside, count, smallest, others}
+use Rattle.lists.proofs.TestLaws.{both-hold, le-holds}
+use Rattle.sets.specs.Sets.{member, full, single, inside, count, smallest, others}
 use Rattle.sets.proofs.Members.{member-full, member-single}
 use Rattle.sets.proofs.Sameness.{full-below, single-below}
 use Rattle.sets.proofs.Counting.{count-positive, count-not-empty, count-of-single, count-of-full, count-inside, count-falls}
 use Rattle.sets.proofs.Smallest.{smallest-least, smallest-member, smallest-range, single-inside}
 use Rattle.sets.proofs.Smallest.{others-below, member-others, others-inside, count-others}
 use Rattle.rules.specs.Meaning.{Assignment, Before}
-use Rattle.steps.specs.Boxes.{startBox, openValues, boxSize, InBox, BoxInside, Rooms, smallestOf, firstHalf, otherHalf}
+use Rattle.steps.specs.Boxes.{startBox, openValues, boxSize, InBox, BoxInside, Rooms, wide, smallestOf, firstHalf, otherHalf}
 use Rattle.steps.proofs.Boxes.BoxLaws.{in-box-at, in-box-set, set-inside, rooms-at, rooms-set}
 
 -- ---- one box inside another
@@ -58,6 +59,12 @@ pub size-positive : (b : List ℕ) → Rooms b → 1 ≤ boxSize b
 unfolding boxSize
 size-positive [] h = le-refl 1
 size-positive (r ∷ b) h = mul-pos (count-positive r (h .0 .0) (h .0 .1)) (size-positive b (h .1))
+
+-- ---- rooms of two or more values
+
+-- a room has two or more values, and a test holds
+pub wide-and : (box : List ℕ) (i : ℕ) (b : Bool) → T (wide box i && b) ↔ ((2 ≤ count (getD box i 0)) × T b)
+wide-and box i b = Iff·trans (both-hold (wide box i) b) (Iff·and (le-holds 2 (count (getD box i 0))) Iff·rfl)
 
 -- ---- a room cut, and a room cut in two ways
 
@@ -172,18 +179,21 @@ smallest-lowest (room ∷ box) [] i h g = absurd g
 smallest-lowest (room ∷ box) (x ∷ a) zero h g = smallest-least room x (h .0 .0) (g .0) .1
 smallest-lowest (room ∷ box) (x ∷ a) (suc i) h g = smallest-lowest box a i (h .1) (g .1)
 
+-- two lists that are the same, or come one before the other, are so with the smallest value of a room and with any of its values in front
+pub smallest-before : (room x : ℕ) (a b : List ℕ) → room < 2 ^ 32 → member x room → (a ≡ b) ⊎ Before a b → (smallest room ∷ a ≡ x ∷ b) ⊎ Before (smallest room ∷ a) (x ∷ b)
+smallest-before room x a b mask t rest = go (ℕ-discrete (smallest room) x)
+  where
+    go : Dec (smallest room ≡ x) → (smallest room ∷ a ≡ x ∷ b) ⊎ Before (smallest room ∷ a) (x ∷ b)
+    go (yes e) = ⊎-map (ap₂ _∷_ e) (λ h. inr (e, h)) rest
+    go (no apart) = inr (inl (lt-of-le-of-ne (smallest-least room x mask t .1) apart))
+
 -- the smallest values come before every other assignment of the box
 pub smallest-first : (box a : List ℕ) → Rooms box → InBox a box → (smallestOf box ≡ a) ⊎ Before (smallestOf box) a
 unfolding smallestOf
 smallest-first [] [] h g = inl refl
 smallest-first [] (x ∷ a) h g = absurd g
 smallest-first (room ∷ box) [] h g = absurd g
-smallest-first (room ∷ box) (x ∷ a) h g = go (ℕ-discrete (smallest room) x) (smallest-first box a (h .1) (g .1))
-  where
-    go : Dec (smallest room ≡ x) → (smallestOf box ≡ a) ⊎ Before (smallestOf box) a
-        → (smallest room ∷ smallestOf box ≡ x ∷ a) ⊎ Before (smallest room ∷ smallestOf box) (x ∷ a)
-    go (yes e) rest = ⊎-map (ap₂ _∷_ e) (λ b. inr (e, b)) rest
-    go (no apart) rest = inr (inl (lt-of-le-of-ne (smallest-least room x (h .0 .0) (g .0) .1) apart))
+smallest-first (room ∷ box) (x ∷ a) h g = smallest-before room x (smallestOf box) a (h .0 .0) (g .0) (smallest-first box a (h .1) (g .1))
 
 -- the assignments of v positions are those in the box at the start
 pub start-assignments : (v n : ℕ) (a : List ℕ) → n ≤ 32 → Assignment v n a ↔ InBox a (startBox v n)

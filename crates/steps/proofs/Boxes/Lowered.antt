@@ -1,6 +1,6 @@
 -- An assignment with the smallest values in front: where it lies, and what it comes before. Assumes nothing.
-use mathlib.Core.Path.{_≡_, refl, sym, ap₂}
-use mathlib.Core.Logic.{_⊎_, inl, inr, ⊎-map}
+use mathlib.Core.Path.{_≡_, refl, sym}
+use mathlib.Core.Logic.{_⊎_, inl, inr}
 use mathlib.Core.List.{List, [], _∷_}
 use Prim.Native.Nat.{ℕ, zero, suc, _^_, _<_}
 use native.Mathlib.Decide.{ℕ-discrete}
@@ -14,6 +14,7 @@ use Rattle.rules.specs.Meaning.{Before}
 use Rattle.rules.proofs.DictionaryOrder.{before-irreflexive, before-transitive}
 use Rattle.steps.specs.Boxes.{InBox, Rooms, firstHalf, otherHalf}
 use Rattle.steps.proofs.Boxes.BoxLaws.{rooms-at}
+use Rattle.steps.proofs.Boxes.BoxSizes.{smallest-before}
 
 -- the assignment with the smallest values of the first i rooms in front
 unfoldable pub lowered : ℕ → List ℕ → List ℕ → List ℕ
@@ -54,11 +55,7 @@ unfolding lowered
 lowered-first zero box a r rooms h = inl refl
 lowered-first (suc i) [] a r rooms h = inl refl
 lowered-first (suc i) (room ∷ box) [] r rooms h = absurd h
-lowered-first (suc i) (room ∷ box) (x ∷ a) r rooms h = go (ℕ-discrete (smallest room) x) (lowered-first i box a r (rooms .1) (h .1))
-  where
-    go : Dec (smallest room ≡ x) → (lowered i box a ≡ a) ⊎ Before (lowered i box a) a → (smallest room ∷ lowered i box a ≡ x ∷ a) ⊎ Before (smallest room ∷ lowered i box a) (x ∷ a)
-    go (yes e) rest = ⊎-map (ap₂ _∷_ e) (λ b. inr (e, b)) rest
-    go (no apart) rest = inr (inl (lt-of-le-of-ne (smallest-least room x (rooms .0 .0) (h .0) .1) apart))
+lowered-first (suc i) (room ∷ box) (x ∷ a) r rooms h = smallest-before room x (lowered i box a) a (rooms .0 .0) (h .0) (lowered-first i box a r (rooms .1) (h .1))
 
 -- where the values of r come before those of s, it comes before every assignment with s
 parts-in-order : (box : List ℕ) (i r s : ℕ) → Rooms box → i < length box → ((x y : ℕ) → member x r → member y s → x < y)

@@ -7,10 +7,10 @@ use Prim.Native.Nat.{ℕ, _+_, _-_, _≤_, _<_}
 use native.Mathlib.Nat.{le-refl}
 use native.Mathlib.Decide.{decLt}
 use native.Mathlib.Omega.{arith}
-use lib.Dec.{T, leb}
+use lib.Dec.{T}
 use lib.ListN.{length, getD}
 use Rattle.lists.proofs.LowestLaws.{lowest-most, lowest-passes, lowest-before, lowest-none}
-use Rattle.lists.proofs.TestLaws.{both-hold, le-holds, true-test}
+use Rattle.lists.proofs.TestLaws.{true-test}
 use Rattle.sets.specs.Sets.{count}
 use Rattle.rules.specs.Rules.{Field}
 use Rattle.rules.specs.Meaning.{MeetsFields, Before, valueAt}
@@ -18,7 +18,7 @@ use Rattle.steps.specs.Boxes.{roomAt, InBox, Rooms, firstHalf, otherHalf
 use Rattle.steps.specs.Shrinking.{alive, round, settled, liveInFields}
 use Rattle.steps.specs.Search.{splittable, chosen}
 use Rattle.steps.proofs.Boxes.BoxLaws.{in-box-inside}
-use Rattle.steps.proofs.Boxes.BoxSizes.{first-half-inside}
+use Rattle.steps.proofs.Boxes.BoxSizes.{wide-and, first-half-inside}
 use Rattle.steps.proofs.Boxes.Lowered.{lowered, lowered-same, lowered-in-half, lowered-itself, halves-in-order}
 use Rattle.steps.proofs.Looks.LiveTests.{settled-none-live, live-in-range, live-in-fields}
 use Rattle.steps.proofs.Looks.FittingRules.{FieldsFit}
@@ -44,10 +44,7 @@ module _ (fields : List Field) (box : List ℕ) where
   -- an index may be split exactly if its room has two or more values and its position is live in a part that is not settled
   pub may-split : (i : ℕ) → T (splittable fields box i) ↔ ((2 ≤ count (getD box i 0)) × T (liveInFields fields box (i + 1)))
   unfolding splittable
-  may-split i =
-      let wide = leb 2 (count (getD box i 0)) in
-      let both = both-hold wide (liveInFields fields box (i + 1)) in
-      (λ t. (le-holds 2 (count (getD box i 0)) .0 (both .0 t .0), both .0 t .1), λ h. both .1 (le-holds 2 (count (getD box i 0)) .1 (h .0), h .1))
+  may-split i = wide-and box i (liveInFields fields box (i + 1))
 
   -- the chosen index is that of a room, or the number of rooms
   pub chosen-most : chosen fields box ≤ length box

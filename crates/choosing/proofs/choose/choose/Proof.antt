@@ -1,5 +1,5 @@
 -- `choosing::choose::choose` meets its contract. The loop over the fields: what those from `at` on leave to be split, below `best`, is what is chosen. The loop over a clause's atoms: the lowest live position below `best` is that by the atoms from `i` on, below `low`. The measures are the bytes left. Assumes nothing.
-use mathlib.Core.Path.{_≡_, refl, sym, _∙_}
+use mathlib.Core.Path.{_≡_, sym, _∙_}
 use mathlib.Core.Logic.{inl, inr, ⊎-elim}
 use Prim.Native.Nat.{_+_, _-_, _≤_}
 use native.Mathlib.Omega.{arith}

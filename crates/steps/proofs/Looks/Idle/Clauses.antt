@@ -21,6 +21,8 @@ use Rattle.steps.proofs.Boxes.BoxLaws.{box-inside-length, box-inside-at
 use Rattle.steps.proofs.Looks.LiveLaws.{live-of-shared}
 use Rattle.steps.proofs.Looks.ClauseLaws.{ClauseFits, LiveIn, ClauseLook, none-live, one-live, more-live, clause-look}
 use Rattle.steps.proofs.Looks.ClauseLaws.{ShowsSettled, settled-some, fits-position, live-larger}
+use Rattle.rules.specs.Parts.{oneOf}
+use Rattle.steps.proofs.Looks.RuleLaws.{LiveUnsettled}
 use Rattle.steps.proofs.Looks.Idle.ButForIdle.{SameWay, SameLooks, both-dead, both-alive, same-way-stay, same-way-set}
 use Rattle.steps.proofs.Looks.Idle.ButForIdle.{StaysIdle, StaysLive, SameSettled, LooksSame}
 
@@ -64,17 +66,13 @@ module _ (atoms : List Atom) where
 
   -- ---- the laws
 
-  -- p is a position of the box that is live in the clause, which is not settled
-  abbrev LiveUnsettled : List ℕ → ℕ → Type 0
-  LiveUnsettled box p = (settledClause box atoms ≡ false) × LiveIn atoms box p
-
   -- idle positions stay idle
-  pub clause-stays-idle : StaysIdle LiveUnsettled
+  pub clause-stays-idle : StaysIdle (LiveUnsettled (oneOf atoms))
   clause-stays-idle b c p rooms i live =
       (test-same (settledClause b atoms) false (λ t. subst T (live .0) (stays-settled b c i t)) absurd, live-larger atoms c b p rooms i (live .1))
 
   -- the clause is settled in both boxes or in neither: the room that shows it is that of a live position
-  pub clause-same-settled : SameSettled (λ v. ClauseFits v atoms) LiveUnsettled (λ box. settledClause box atoms)
+  pub clause-same-settled : SameSettled (λ v. ClauseFits v atoms) (LiveUnsettled (oneOf atoms)) (λ box. settledClause box atoms)
   unfolding settledClause
   clause-same-settled b c fits h =
       test-same (settledClause b atoms) (settledClause c atoms) (stays-settled b c (h .inside)) (λ t. back t (test-cases (settledClause b atoms)))
@@ -91,14 +89,14 @@ module _ (atoms : List Atom) where
           settled-some atoms atoms b .1 (some-of-listed (λ a. ShowsSettled atoms b (a .position)) (found .1) shown)
 
   -- what is live in the larger is live in the smaller
-  pub clause-stays-live : StaysLive (λ v. ClauseFits v atoms) LiveUnsettled
+  pub clause-stays-live : StaysLive (λ v. ClauseFits v atoms) (LiveUnsettled (oneOf atoms))
   clause-stays-live b c fits h p live =
       let high : p ≤ length c = omega (arith, live .1 .1, box-inside-length c b (h .inside)) in
       let there = subst (λ (r : ℕ). T (isLive atoms p r)) (h .same p live) (live .1 .2) in
       (sym (clause-same-settled b c fits h) ∙ live .0, (live .1 .0, high, there))
 
   -- looks at both find the same
-  pub clause-looks-same : (place : ℕ) → LooksSame (λ v. ClauseFits v atoms) LiveUnsettled (lookClause place atoms)
+  pub clause-looks-same : (place : ℕ) → LooksSame (λ v. ClauseFits v atoms) (LiveUnsettled (oneOf atoms)) (lookClause place atoms)
   unfolding cut withRoom roomAt
   clause-looks-same place b c fits h = go (settledClause b atoms) refl
     where

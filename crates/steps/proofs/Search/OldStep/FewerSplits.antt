@@ -5,7 +5,6 @@ use mathlib.Core.List.{List}
 use Prim.Native.Nat.{ℕ, zero, suc, _+_, _-_, _≤_, _<_}
 use native.Mathlib.Decide.{ℕ-discrete, decLt}
 use native.Mathlib.Omega.{arith}
-use lib.Dec.{leb}
 use lib.ListN.{length, getD, set}
 use lib.Seq.{getD-set-same, getD-set-other}
 use borrow.Author.Tests.{lt-leb}
@@ -15,7 +14,7 @@ use Rattle.sets.specs.Sets.{single, count, smallest, others}
 use Rattle.sets.proofs.Smallest.{smallest-range, smallest-of-single}
 use Rattle.rules.specs.Rules.{Field, File}
 use Rattle.rules.specs.Writing.{fieldsOf, Within}
-use Rattle.steps.specs.Boxes.{roomAt, BoxInside, openValues, Rooms, firstHalf, otherHalf}
+use Rattle.steps.specs.Boxes.{roomAt, BoxInside, openValues, Rooms, wide, firstHalf, otherHalf}
 use Rattle.steps.specs.Shrinking.{alive, round}
 use Rattle.steps.specs.Reply.{Reply}
 use Rattle.steps.specs.Search.{chosen, ifNone, explored}
@@ -39,7 +38,7 @@ use Rattle.steps.proofs.Search.Walk.{walk, never, explored-walks}
 -- the room that was split has two or more values
 wide-two : (box : List ℕ) → lowestWide box < length box → 2 ≤ count (getD box (lowestWide box) 0)
 unfolding lowestWide
-wide-two box l = le-holds 2 (count (getD box (lowestWide box) 0)) .0 (lowest-passes (λ i. leb 2 (count (getD box i 0))) (length box) l)
+wide-two box l = le-holds 2 (count (getD box (lowestWide box) 0)) .0 (lowest-passes (wide box) (length box) l)
 
 -- no room before it has
 wide-lowest : (box : List ℕ) (i : ℕ) → 2 ≤ count (getD box i 0) → lowestWide box ≤ i
@@ -47,7 +46,7 @@ unfolding lowestWide
 wide-lowest box i two = go (decLt i (lowestWide box))
   where
     go : Dec (i < lowestWide box) → lowestWide box ≤ i
-    go (yes l) = absurd (lowest-before (λ j. leb 2 (count (getD box j 0))) (length box) i l (le-holds 2 (count (getD box i 0)) .1 two))
+    go (yes l) = absurd (lowest-before (wide box) (length box) i l (le-holds 2 (count (getD box i 0)) .1 two))
     go (no g) = omega arith
 
 -- ---- the first half
