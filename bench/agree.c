@@ -992,7 +992,7 @@ int main(int argc, char **argv)
         [11] = "11 answer buffer too short", [12] = "12 allowance too large",
         [13] = "13 bytes missing", [14] = "14 no header first", [15] = "15 a second header",
         [16] = "16 unknown tag", [17] = "17 wrong length", [18] = "18 v or n out of range",
-        [19] = "19 position out of range", [20] = "20 value above n", [21] = "21 stalled",
+        [19] = "19 position out of range", [20] = "20 value above n",
     };
     uint64_t least = argc > 1 ? strtoull(argv[1], 0, 10) : 400000, files = 0;
 

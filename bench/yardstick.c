@@ -6,6 +6,8 @@
    file again. Apart from that it goes by the steps as they are written. */
 #include "yardstick.h"
 
+#include <assert.h>
+
 enum {
     POSITIONS = 64,
     VALUES = 32,
@@ -31,8 +33,7 @@ enum {
     WRONG_LENGTH = 17,
     WRONG_LIMITS = 18,
     WRONG_POSITION = 19,
-    WRONG_SET = 20,
-    STALLED = 21
+    WRONG_SET = 20
 };
 
 /* ---- the rules, parsed ---- */
@@ -434,7 +435,7 @@ static void count_passed_over(const struct box *box, uint32_t split)
 }
 #endif
 
-/* Steps 1 to 4 for a box. Answers PLAN (with the values in `plan`), NONE, UNDECIDED or STALLED. */
+/* Steps 1 to 4 for a box. Answers PLAN (with the values in `plan`), NONE or UNDECIDED. */
 static int search(struct box box)
 {
     const struct rule *unsettled;
@@ -456,8 +457,7 @@ static int search(struct box box)
         return PLAN;
     }
     split = lowest_to_split(unsettled, &box);
-    if (split == v)
-        return STALLED;
+    assert(split < v); /* a box that is neither dead nor settled has one */
     if (split_count == allowed)
         return UNDECIDED;
     split_count++;

@@ -1,4 +1,4 @@
-/* The yardstick: a planner in plain C, written from documents 01 and 02 (R-2) alone, to compare the
+/* The yardstick: a planner in plain C, written from documents 01 and 02 (R-2 and R-8) alone, to compare the
    proved planner with, in what it answers and in how long it takes. Nothing of it is proved. */
 #ifndef YARDSTICK_H
 #define YARDSTICK_H

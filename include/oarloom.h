@@ -61,7 +61,9 @@ extern "C" {
  *   18   REFUSED    the header's number of channels is not 1 to 64, or that of relays not 1 to 32
  *   19   REFUSED    a position that is 0 or above the number of channels
  *   20   REFUSED    a set that has a value above the number of relays
- *   21   STALLED    never comes back: that no file gets it is proved
+ *
+ * No other number comes back. A refusal is every number of 10 or more: test for that, and not for
+ * the last of this table, since the table may grow.
  *
  * 10, 11 and 12 are tested first, in this order. 13 to 20 are faults of the file, and the first one
  * that is found is told, from the front of the file to its end.
@@ -70,9 +72,7 @@ enum oarloom_number {
     OARLOOM_PLAN = 0,
     OARLOOM_NONE = 1,
     OARLOOM_UNDECIDED = 2,
-    OARLOOM_REFUSED_FIRST = 10,
-    OARLOOM_REFUSED_LAST = 20,
-    OARLOOM_STALLED = 21
+    OARLOOM_REFUSED_FIRST = 10
 };
 
 /*

@@ -184,7 +184,7 @@ def check_counts(number, splits, dead_ends):
 # Tests a reply without redoing the search. Gives what is wrong.
 def check_reply(header, rules, reply):
     if reply.number not in KINDS.values():
-        return ['the file is not refused'] if header and reply.number != scope.STALLED else []
+        return ['the file is not refused'] if header else []
     if not header:
         return ['the file is refused, and the reply is not']
     wrong = check_plan(header, rules, reply.values) if reply.number == scope.PLAN else []

@@ -1,4 +1,4 @@
-# A model of documents 01 and 02, written from their text alone: reading a rule file, what rules mean, the
+# A model of documents 01 and 02, written from their text alone: reading a rule file, what rules mean, the
 # search step for step, the reply, and what the program prints. A set is a Python set of the values in it.
 from collections import namedtuple
 
@@ -12,7 +12,7 @@ LEAST_BUFFER = 64
 PROGRAM_SPLITS = 100000
 
 # The replies that are not refusals.
-PLAN, NONE, UNDECIDED, STALLED = 0, 1, 2, 21
+PLAN, NONE, UNDECIDED = 0, 1, 2
 # A reply. The values are those of a plan; every other reply has none.
 Reply = namedtuple('Reply', 'number place splits dead_ends values')
 
@@ -225,10 +225,10 @@ def unsettled(clauses, rooms):
 
 
 # Step 4, as R-2 has it: the lowest-numbered position with two or more values in its room that is live in some clause
-# of those left, which are not yet settled; or None.
+# of those left, which are not yet settled. Once shrinking is over there always is one.
 def split_position(left, rooms):
     live = {position for clause in left for position, union in clause if not union.isdisjoint(rooms[position])}
-    return next((position for position in sorted(live) if len(rooms[position]) >= 2), None)
+    return min(position for position in live if len(rooms[position]) >= 2)
 
 
 # Step 4: the box with the smallest value alone in that room, and the box with the others.
@@ -253,8 +253,6 @@ def search(header, rules, allowance):
         if not left:
             return Reply(PLAN, 0, splits, dead_ends, tuple(min(rooms[position]) for position in sorted(rooms)))
         position = split_position(left, rooms)
-        if position is None:
-            return Reply(STALLED, 0, splits, dead_ends, ())
         if splits == allowance:
             return Reply(UNDECIDED, 0, splits, dead_ends, ())
         splits += 1

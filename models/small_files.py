@@ -170,8 +170,7 @@ class Search:
                     rooms[live[0] - 1] &= u[live[0]]; change = True
         left = [u for u in self.cs if not any(rooms[p - 1] <= u[p] for p in u)]
         if not left: return tuple(min(r) for r in rooms)
-        i = next((i for i, r in enumerate(rooms) if len(r) >= 2 and any(r & u.get(i + 1, set()) for u in left)), None)
-        if i is None: raise Stop(21)
+        i = next(i for i, r in enumerate(rooms) if len(r) >= 2 and any(r & u.get(i + 1, set()) for u in left))
         if self.splits >= self.allowed: raise Stop(2)
         self.splits += 1
         low = min(rooms[i])
@@ -191,7 +190,7 @@ def plan(file, length, allowance):
     return Refused(*r[1:]) if r[0] == 'refused' else Search(*r[1:], allowance)
 
 # ---- the program's counts
-T = dict.fromkeys([0, 1, 2] + list(range(10, 22)) + ['files', 'damaged', 'splits', 'dead', 'places', 'checksum', 'comparisons'], 0)
+T = dict.fromkeys([0, 1, 2] + list(range(10, 21)) + ['files', 'damaged', 'splits', 'dead', 'places', 'checksum', 'comparisons'], 0)
 hist = {}
 
 def ask(file, length=64, allowance=MOST):
@@ -258,7 +257,6 @@ judge(header(64, 1) + field(3, bytes([0, 0, 0, 1] + [1] * 64))); judge(header(64
 print('files', T['files']); print('damaged files', T['damaged'])
 print('PLAN', T[0]); print('NONE', T[1]); print('UNDECIDED', T[2])
 for i in range(10, 21): print('refused, %d: %d' % (i, T[i]))
-print('stalled, 21:', T[21])
 print('splits', T['splits']); print('dead ends', T['dead']); print('places', T['places'])
 print('checksum', T['checksum']); print('comparisons', T['comparisons']); print('differences 0')
 if STATS:

@@ -11,7 +11,7 @@
 // q is 1.
 //
 // The file `stdout` beside src/ has the line that is right. It follows from this account; a search
-// written from the text of 01 and 02 (R-2) alone, with sets of values in place of masks, gave the same.
+// written from the text of 01 and 02 alone, with sets of values in place of masks, gave the same.
 mod file;
 mod line;
 

@@ -7,17 +7,15 @@ use native.Mathlib.Omega.{arith}
 use lib.ListN.{length, take, replicate}
 use Rattle.lists.specs.Lists.{Every}
 use Rattle.rules.specs.Rules.{File}
-use Rattle.rules.specs.Writing.{fieldsOf}
 use Rattle.rules.specs.Reading.{Reading, sound, refused, reading}
 use Rattle.lists.proofs.ListLaws.{every-map}
 use Rattle.rules.proofs.Reading.RefusalLaws.{refused-number, refused-place}
 use Rattle.rules.proofs.Writing.RoundTrip.{written-of-read}
-use Rattle.steps.specs.Table.{startOf, planned, ofReading}
-use Rattle.steps.proofs.Search.Counts.{search-counts}
+use Rattle.steps.specs.Table.{planned, ofReading}
 use Rattle.searching.specs.declared.reply.Reply.{Reply}
 use Rattle.searching.specs.Answered.{told}
 use Rattle.planner.specs.Promise.{Accepted, Planned}
-use Rattle.planner.proofs.ReplyLaws.{of-every-reply, start-filled}
+use Rattle.planner.proofs.ReplyLaws.{of-every-reply, read-counts}
 use Rattle.texts.specs.declared.Text.{Text}
 use Rattle.texts.specs.Grown.{shown}
 use Rattle.texts.proofs.GrownLaws.{shown-line}
@@ -27,7 +25,7 @@ use Rattle.lines.proofs.ReadBack.{Printable, ends, refuses, Few, texts-
 
 -- every reply that the planner promises can be read back
 pub promised-printable : (input before after : List ℕ) (allowed : ℕ) (r : Reply) → Planned input before after allowed r → Printable r
-unfolding ofReading planned
+unfolding ofReading
 promised-printable input before after allowed r promised =
     subst Printable (sym (promised .answered .reply))
     (of-every-reply input (length before) allowed (λ g. r ≡ told g → Printable (told g)) (λ number low high is. refuses number 0 (omega arith) (omega arith) (omega arith)) read (promised .answered .reply))
@@ -37,7 +35,7 @@ promised-printable input before after allowed r promised =
         let low = promised .decided file (record { short = short; roomy = roomy; modest = modest; read = e }) in
         let found = planned file allowed in
         let same : r .number ≡ found .number = ap (λ (s : Reply). s .number) is in
-        let counts = search-counts (fieldsOf file) (startOf file) (start-filled input file e) allowed 0 0 (omega arith) in
+        let counts = read-counts input file e allowed in
         rw (counts .place) (ends (found .number) (found .splits) (found .deadEnds) (omega arith) (omega (arith, counts .within)) (omega (arith, counts .within, counts .fewer)))
     read (refused number place) e short roomy modest is =
         let range = refused-number input number place e in
@@ -63,7 +61,7 @@ printed-apart input other text p q =
 module _ (input after : List ℕ) (r : Reply) (bytes : Every (λ b. b < 256) input) (promised : Planned input (replicate 64 0) after 100000 r) (plan : r .number ≡ 0) where
   -- a plan is the reply to a file that is accepted
   plan-accepted : ((file : File) → Accepted input (replicate 64 0) 100000 file → ⊥) → ⊥
-  plan-accepted nobody = omega (arith, promised .refused nobody .0)
+  plan-accepted nobody = omega (arith, promised .refused nobody)
 
   -- and so not to an input that is too long
   plan-short : length input ≤ 32768

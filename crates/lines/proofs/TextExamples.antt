@@ -3,7 +3,7 @@ use mathlib.Core.Path.{_≡_, refl}
 use mathlib.Core.List.{[], _∷_}
 use Rattle.texts.specs.Bytes.{bytesOf, digits, decimal, behind, spaced, newline}
 use Rattle.texts.specs.ReadBack.{numberIn, digitsAfter, endsWord, intoFirst, wordsNext, wordsIn}
-use Rattle.steps.specs.Reply.{plan, none, undecided, stalled, refusal}
+use Rattle.steps.specs.Reply.{plan, none, undecided, refusal}
 use Rattle.searching.specs.Answered.{told}
 use Rattle.lines.specs.Text.{firstLine, textOf}
 use Rattle.lines.specs.ReadBack.{firstByte, replyIn, numbersIn}
@@ -27,11 +27,6 @@ example-undecided = refl
 pub example-refused : textOf (told (refusal 15 5)) [] ≡ bytesOf "REFUSED 15 5\n"
 unfolding textOf firstLine newline spaced behind decimal digits bytesOf
 example-refused = refl
-
--- a stall
-pub example-stalled : textOf (told (stalled 3 2)) [] ≡ bytesOf "REFUSED 21 0\n"
-unfolding textOf firstLine newline spaced behind decimal digits bytesOf
-example-stalled = refl
 
 -- a text read back: its words, its reply and its values
 pub example-back : (replyIn (wordsIn (bytesOf "PLAN 1 0\n1 2\n")) ≡ told (plan [] 1 0)) × (numbersIn (wordsIn (bytesOf "PLAN 1 0\n1 2\n")) ≡ 1 ∷ 2 ∷ [])

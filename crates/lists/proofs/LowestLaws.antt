@@ -38,6 +38,14 @@ lowest-before test (suc n) zero h t = lowest-by test n (λ k. 0 < k → ⊥) (λ
 lowest-before test (suc n) (suc i) h t =
     lowest-by test n (λ k. suc i < k → ⊥) (λ u l. omega arith) (λ f l. lowest-before (λ j. test (suc j)) n i (omega arith) t) h
 
+-- so it is at most any number that passes
+pub lowest-at-most : (test : ℕ → Bool) (n i : ℕ) → T (test i) → lowest test n ≤ i
+lowest-at-most test n i t = go (decLt i (lowest test n))
+  where
+    go : Dec (i < lowest test n) → lowest test n ≤ i
+    go (yes l) = absurd (lowest-before test n i l t)
+    go (no g) = omega arith
+
 -- a number of which these three hold is the lowest
 pub lowest-is : (test : ℕ → Bool) (n r : ℕ) → r ≤ n → (r < n → T (test r)) → ((i : ℕ) → i < r → T (test i) → ⊥) → lowest test n ≡ r
 lowest-is test n r most passes before = go (decLt (lowest test n) r) (decLt r (lowest test n))

@@ -1,19 +1,19 @@
--- What holds of every reply that the promise allows: its numbers are small (`reply-limits`), it is no stall (`reply-not-stalled`), NONE has one dead end more than splits (`none-counted`). Assumes nothing.
+-- What holds of every reply that the promise allows: its number is 0, 1 or 2 or a refusal's (`reply-numbers`), its other numbers are small (`reply-limits`), NONE has one dead end more than splits (`none-counted`). Assumes nothing.
 use mathlib.Core.Path.{_≡_, sym, subst}
+use mathlib.Core.Logic.{_⊎_, inl, inr}
 use mathlib.Core.List.{List}
 use Prim.Native.Nat.{ℕ, _+_, _≤_}
+use native.Mathlib.Decide.{decLe}
 use native.Mathlib.Omega.{arith}
 use lib.ListN.{length}
-use Rattle.rules.specs.Writing.{fieldsOf}
 use Rattle.rules.specs.Reading.{Reading, sound, refused, reading}
 use Rattle.rules.proofs.Reading.RefusalLaws.{refused-number, refused-place}
 use Rattle.steps.specs.Reply as steps
-use Rattle.steps.specs.Table.{startOf, planned, ofReading}
-use Rattle.steps.proofs.Search.Counts.{search-counts}
+use Rattle.steps.specs.Table.{ofReading}
 use Rattle.searching.specs.declared.reply.Reply.{Reply}
 use Rattle.searching.specs.Answered.{told}
 use Rattle.planner.specs.Promise.{Planned}
-use Rattle.planner.proofs.ReplyLaws.{of-every-reply, start-filled}
+use Rattle.planner.proofs.ReplyLaws.{of-every-reply, read-counts}
 
 -- a place within the longest input, no more splits than may be allowed, and at most one dead end more; one more in NONE
 pub record Limited (r : Reply) : Type 0 where
@@ -24,9 +24,9 @@ pub record Limited (r : Reply) : Type 0 where
 
 -- the reply to what was read
 read-limited : (input : List ℕ) (allowed : ℕ) (found : Reading) → reading input ≡ found → length input ≤ 32768 → allowed ≤ 1000000 → Limited (told (ofReading found allowed))
-unfolding ofReading planned
+unfolding ofReading
 read-limited input allowed (sound file) read short modest =
-    let counts = search-counts (fieldsOf file) (startOf file) (start-filled input file read) allowed 0 0 (omega arith) in
+    let counts = read-counts input file read allowed in
     record {
       place = omega (arith, counts .place);
       splits = omega (arith, counts .within);
@@ -54,8 +54,10 @@ module _ (input before after : List ℕ) (allowed : ℕ) (r : Reply) (promised :
   pub none-counted : r .number ≡ 1 → r .«dead_ends» ≡ r .splits + 1
   none-counted = reply-limits .none
 
-  -- and the reply is no stall: an accepted call has a number of at most 2, and any other one of at most 20
-  pub reply-not-stalled : r .number ≡ 21 → ⊥
-  reply-not-stalled e =
-      let refused-so = promised .refused (λ file accepted. let low = promised .decided file accepted in omega arith) in
-      omega arith
+  -- and the reply is PLAN, NONE or UNDECIDED, or a refusal: an accepted call has a number of at most 2, and any other one of 10 or more
+  pub reply-numbers : (r .number ≤ 2) ⊎ (10 ≤ r .number)
+  reply-numbers = go (decLe (r .number) 2)
+    where
+      go : Dec (r .number ≤ 2) → (r .number ≤ 2) ⊎ (10 ≤ r .number)
+      go (yes low) = inl low
+      go (no high) = inr (promised .refused λ file accepted. high (promised .decided file accepted))

@@ -92,7 +92,7 @@ module _ (input before after : List ℕ) (allowed : ℕ) (r : Reply) (bytes : Ev
     answered = answered;
     decided = λ file accepted. omega (arith, number-found file accepted, number-decided file (within file accepted) allowed);
     refused = λ nobody.
-        subst (λ (k : ℕ). (10 ≤ k) × (k ≤ 20)) (sym (ap (λ (q : Reply). q .number) (answered .reply)))
+        subst (λ (k : ℕ). 10 ≤ k) (sym (ap (λ (q : Reply). q .number) (answered .reply)))
         (reply-refuses input (length before) allowed (λ file short roomy modest read. nobody file (record { short = short; roomy = roomy; modest = modest; read = read })));
     kept = λ other.
         answered .memory

@@ -16,23 +16,35 @@ use Rattle.steps.specs.Reply.{Reply, refusal}
 use Rattle.steps.specs.Boxes.{startBox, Rooms}
 use Rattle.steps.specs.Table.{startOf, planned, ofReading, replyOf}
 use Rattle.steps.proofs.Boxes.BoxSizes.{start-rooms}
-use Rattle.steps.proofs.Search.Counts.{Written, search-written}
+use Rattle.steps.proofs.Demands.{start-positions}
+use Rattle.steps.proofs.Looks.FittingRules.{FieldsFit, FitsBox, read-fits}
+use Rattle.steps.proofs.Search.Counts.{Counted, Written, search-counts, search-written}
 use Rattle.rules.specs.Sound.{fileOf}
 use Rattle.rules.proofs.Reading.WalkLaws.{sound-values}
 use Rattle.planner.specs.Promise.{Accepted}
 
--- the rooms that the search of a file that was read starts with are not empty
-pub start-filled : (input : List ℕ) (file : File) → reading input ≡ sound file → Rooms (startOf file)
-unfolding startOf fileOf
-start-filled input file e =
-    let same : fileOf (reading input) ≡ file = ap fileOf e in
-    let values = sound-values input (fileOf (reading input) .v) (record { read = e ∙ ap sound (sym same); positions = refl }) in
-    subst (λ (f : File). Rooms (startBox (f .v) (f .n))) same (start-rooms (fileOf (reading input) .v) (fileOf (reading input) .n) (values .0) (values .1))
+module _ (input : List ℕ) (file : File) (read : reading input ≡ sound file) where
+  -- the rooms that the search of a file that was read starts with are not empty
+  pub start-filled : Rooms (startOf file)
+  unfolding startOf fileOf
+  start-filled =
+      let same : fileOf (reading input) ≡ file = ap fileOf read in
+      let values = sound-values input (fileOf (reading input) .v) (record { read = read ∙ ap sound (sym same); positions = refl }) in
+      subst (λ (f : File). Rooms (startBox (f .v) (f .n))) same (start-rooms (fileOf (reading input) .v) (fileOf (reading input) .n) (values .0) (values .1))
 
--- only a plan that the search of a file gives has values
-planned-quiet : (file : File) → Rooms (startOf file) → (allowed : ℕ) → Written (planned file allowed)
-unfolding planned
-planned-quiet file rooms allowed = search-written (fieldsOf file) (startOf file) rooms allowed 0 0
+  -- and its rules fit them
+  start-fits : FitsBox (fieldsOf file) (startOf file)
+  start-fits = subst (λ (v : ℕ). FieldsFit v (fieldsOf file)) (sym (start-positions file)) (read-fits input file read)
+
+  -- so the counts of its search fit: no more splits than allowed, and at most one dead end more
+  pub read-counts : (allowed : ℕ) → Counted allowed 0 0 (planned file allowed)
+  unfolding planned
+  read-counts allowed = search-counts (fieldsOf file) (startOf file) start-filled start-fits allowed 0 0 (omega arith)
+
+  -- and only a plan that it gives has values
+  read-written : (allowed : ℕ) → Written (planned file allowed)
+  unfolding planned
+  read-written allowed = search-written (fieldsOf file) (startOf file) start-filled start-fits allowed 0 0
 
 module _ (input : List ℕ) (buffer allowed : ℕ) where
   -- the first three tests
@@ -69,11 +81,11 @@ module _ (input : List ℕ) (buffer allowed : ℕ) where
 
   -- a call that no file is accepted for gets a refusal
   pub reply-refuses : ((file : File) → length input ≤ 32768 → 64 ≤ buffer → allowed ≤ 1000000 → reading input ≡ sound file → ⊥)
-      → (10 ≤ replyOf input buffer allowed .number) × (replyOf input buffer allowed .number ≤ 20)
+      → 10 ≤ replyOf input buffer allowed .number
   unfolding ofReading
-  reply-refuses nobody = of-every-reply (λ g. (10 ≤ g .number) × (g .number ≤ 20)) (λ number low high. omega arith) read
+  reply-refuses nobody = of-every-reply (λ g. 10 ≤ g .number) (λ number low high. low) read
     where
-      read : (r : Reading) → reading input ≡ r → length input ≤ 32768 → 64 ≤ buffer → allowed ≤ 1000000 → (10 ≤ ofReading r allowed .number) × (ofReading r allowed .number ≤ 20)
+      read : (r : Reading) → reading input ≡ r → length input ≤ 32768 → 64 ≤ buffer → allowed ≤ 1000000 → 10 ≤ ofReading r allowed .number
       read (sound file) e h g l = absurd (nobody file h g l e)
       read (refused number place) e h g l = let n = refused-number input number place e in omega arith
 
@@ -83,7 +95,7 @@ module _ (input : List ℕ) (buffer allowed : ℕ) where
   reply-silent = of-every-reply Written (λ number low high. λ ne. refl) read
     where
       read : (r : Reading) → reading input ≡ r → length input ≤ 32768 → 64 ≤ buffer → allowed ≤ 1000000 → Written (ofReading r allowed)
-      read (sound file) e h g l = planned-quiet file (start-filled input file e) allowed
+      read (sound file) e h g l = read-written input file e allowed
       read (refused number place) e h g l = λ ne. refl
 
 -- a call that is not refused has the reply of the file's search

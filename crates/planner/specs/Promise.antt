@@ -24,9 +24,9 @@ pub record Accepted (input before : List ℕ) (allowed : ℕ) (file : File) : Ty
 pub record Planned (input before after : List ℕ) (allowed : ℕ) (r : Reply) : Type 0 where
   -- Demand 1. The reply is the one of 01's table, and the buffer has the plan's values in front of the bytes that it had.
   pub answered : Answered (replyOf input (length before) allowed) r before after
-  -- A call that is accepted gets PLAN, NONE or UNDECIDED, no refusal and no stall; any other gets a refusal, 10 to 20.
+  -- A call that is accepted gets PLAN, NONE or UNDECIDED, which are 0, 1 and 2; any other gets a refusal, which is 10 or more.
   pub decided : (file : File) → Accepted input before allowed file → r .number ≤ 2
-  pub refused : ((file : File) → Accepted input before allowed file → ⊥) → (10 ≤ r .number) × (r .number ≤ 20)
+  pub refused : ((file : File) → Accepted input before allowed file → ⊥) → 10 ≤ r .number
   -- A reply that is no plan leaves every byte as it was; a plan leaves those from v on.
   pub kept : (r .number ≡ 0 → ⊥) → after ≡ before
   pub beyond : (file : File) → Accepted input before allowed file → (i : ℕ) → file .v ≤ i → getD after i 0 ≡ getD before i 0

@@ -20,12 +20,13 @@ use Rattle.steps.specs.Shrinking.{Look, dead, alive, shrunk, settled}
 use Rattle.lists.specs.Buffer.{over}
 use Rattle.steps.specs.Reply as steps
 use Rattle.steps.specs.Reply.{ended, plan, none, undecided}
-use Rattle.steps.specs.Search.{chosen, ifNone, searched}
+use Rattle.steps.specs.Search.{chosen, ifNone, turn, searched}
 use Rattle.steps.proofs.Boxes.BoxLaws.{box-inside-length, box-inside-at, rooms-at}
-use Rattle.steps.proofs.Boxes.BoxSizes.{open-inside, first-half-rooms, other-half-rooms, first-half-falls, other-half-falls}
-use Rattle.steps.proofs.Looks.FittingRules.{FieldsFit}
-use Rattle.steps.proofs.Looks.ShrinkLaws.{shrunk-inside, shrunk-fixed}
-use Rattle.steps.proofs.Search.Chosen.{chosen-most, chosen-two, settled-exactly}
+use Rattle.steps.proofs.Boxes.BoxSizes.{open-inside, first-half-inside, first-half-rooms, other-half-rooms, first-half-falls, other-half-falls}
+use Rattle.steps.proofs.Looks.FittingRules.{FieldsFit, FitsBox, fits-inside}
+use Rattle.steps.proofs.Looks.ShrinkLaws.{shrunk-inside}
+use Rattle.steps.proofs.Search.Chosen.{chosen-most, chosen-two}
+use Rattle.steps.proofs.Search.AlwaysSplits.{settled-exactly}
 use Rattle.boxes.specs.declared.shrink.Verdict.the-variants.{Alive, Dead}
 use Rattle.boxes.specs.declared.shrink.Shrunk.{Shrunk}
 use Rattle.boxes.specs.Rounds.{shrunkRooms}
@@ -93,6 +94,13 @@ module _ (given : Given) where
   box-length : length box ≡ v
   box-length = length-take-le v (given .rooms) (omega (arith, given .small, given .long))
 
+  box-fits : FitsBox fields box
+  box-fits = subst (λ (k : ℕ). FieldsFit k fields) (sym box-length) (given .fits)
+
+  -- the search of the box is one turn
+  one-turn : searched fields allowed box s d ≡ turn fields (leb allowed) box s d (searched fields allowed)
+  one-turn = searched-equation fields box (given .full) box-fits allowed s d
+
   -- the saved rooms of a box that lives: the first v of them are the shrunk box, v of them
   pub record Saved (saved : List ℕ) : Type 0 where
     pub shrank : shrunk fields box ≡ alive (take v saved)
@@ -108,7 +116,7 @@ module _ (given : Given) where
   -- ---- the ends of a box that is not split
 
   pub ends-dead : (place : ℕ) → shrunk fields box ≡ dead place → {r : Reply} → r ≡ told (none s (d + 1)) → Ends r (given .before)
-  ends-dead place e q = answers (searched-equation fields box (given .full) allowed s d ∙ rw e refl) (nothing-written q refl)
+  ends-dead place e q = answers (one-turn ∙ rw e refl) (nothing-written q refl)
 
   -- the smallest values of a shrunk box fit into bytes
   pub values-small : {saved : List ℕ} → Saved saved → {values : List ℕ} → values ≡ smallestOf (take v saved) ++ replicate (64 - v) 0 → Every (λ x. x < 256) (take v values)
@@ -123,13 +131,8 @@ module _ (given : Given) where
 
   -- a shrunk box in which no room is left to split is settled
   module _ {saved : List ℕ} (kept : Saved saved) (i : ℕ) (at : i ≡ chosen fields (take v saved)) where
-    shrank-inside : BoxInside (take v saved) box × Rooms (take v saved)
-    shrank-inside = shrunk-inside fields box (take v saved) (given .full) (kept .shrank)
-
     exactly : (settled fields (take v saved) ≡ true) ↔ (chosen fields (take v saved) ≡ length (take v saved))
-    exactly =
-        settled-exactly fields (take v saved) (shrank-inside .1) (subst (λ (k : ℕ). FieldsFit k fields) (sym (kept .length-v)) (given .fits))
-        (shrunk-fixed fields box (take v saved) (given .full) (kept .shrank))
+    exactly = settled-exactly fields box (take v saved) (given .full) box-fits (kept .shrank)
 
     is-settled : v ≤ i → settled fields (take v saved) ≡ true
     is-settled l = exactly .1 (omega (arith, at, kept .length-v, chosen-most fields (take v saved)))
@@ -148,7 +151,7 @@ module _ (given : Given) where
     ends-settled l {values} {after} e m q =
         let long : length (smallestOf (take v saved)) ≡ v = length-map (take v saved) smallest ∙ kept .length-v in
         let front : take v values ≡ smallestOf (take v saved) = ap (take v) e ∙ take-at (smallestOf (take v saved)) (replicate (64 - v) 0) v long in
-        answers {given = plan (smallestOf (take v saved)) s d} (searched-equation fields box (given .full) allowed s d ∙ rw (kept .shrank, is-settled l) refl)
+        answers {given = plan (smallestOf (take v saved)) s d} (one-turn ∙ rw (kept .shrank, is-settled l) refl)
         (record { reply = q; memory = m ∙ ap (λ (xs : List ℕ). over xs (given .before)) front })
 
   -- ---- a box that is split at an index
@@ -172,16 +175,13 @@ module _ (given : Given) where
     unsettled : settled fields inner ≡ false
     unsettled = is-open (split .kept) i (split .at) (split .there)
 
-    divided : leb (length inner) (chosen fields inner) ≡ false
-    divided = lt-leb (length inner) (chosen fields inner) (omega (arith, split .kept .length-v, split .at, split .there))
-
     pub ends-undecided : allowed ≤ s → {r : Reply} → r ≡ told (undecided s d) → Ends r (given .before)
     ends-undecided l q =
-        answers (searched-equation fields box (given .full) allowed s d ∙ rw (split .kept .shrank, unsettled, divided, le-leb allowed s l) refl) (nothing-written q refl)
+        answers (one-turn ∙ rw (split .kept .shrank, unsettled, le-leb allowed s l) refl) (nothing-written q refl)
 
     -- with splits left it is the first half's reply, and after NONE the other half's
     whole : s < allowed → searched fields allowed box s d ≡ ifNone begun later
-    whole l = searched-equation fields box (given .full) allowed s d ∙ rw (split .kept .shrank, unsettled, divided, lt-leb allowed s l, split .at) refl
+    whole l = one-turn ∙ rw (split .kept .shrank, unsettled, lt-leb allowed s l, split .at) refl
 
     -- the saved rooms lie inside those given, and the index is that of a room with two or more values
     pub saved-shrank : BoxInside inner box × Rooms inner
@@ -192,6 +192,14 @@ module _ (given : Given) where
 
     wide : 2 ≤ count (getD inner i 0)
     wide = subst (λ (j : ℕ). 2 ≤ count (getD inner j 0)) (sym (split .at)) (chosen-two fields inner (omega (arith, split .at, inside)))
+
+    -- the first half has no empty room, and the rules fit it
+    first-rooms : Rooms (firstHalf i inner)
+    first-rooms = first-half-rooms inner i (saved-shrank .1) inside wide
+
+    first-fits : FitsBox fields (firstHalf i inner)
+    first-fits =
+        fits-inside fields (firstHalf i inner) inner (first-half-inside inner i (saved-shrank .1) inside wide) (fits-inside fields inner box (saved-shrank .0) box-fits)
 
     -- ---- the halves in code: the first v rooms of each are the half of the box
 
@@ -224,7 +232,7 @@ module _ (given : Given) where
 
       -- NONE left the buffer as it was
       pub none-kept : r .number ≡ 1 → mid ≡ given .before
-      none-kept e = found .memory ∙ ap (λ (xs : List ℕ). over xs (given .before)) (search-written fields (firstHalf i inner) (first-half-rooms inner i (saved-shrank .1) inside wide) allowed (s + 1) d (λ z. omega (arith, number-same)))
+      none-kept e = found .memory ∙ ap (λ (xs : List ℕ). over xs (given .before)) (search-written fields (firstHalf i inner) first-rooms first-fits allowed (s + 1) d (λ z. omega (arith, number-same)))
 
       -- after NONE the other half's reply is the reply
       pub ends-second : s < allowed → r .number ≡ 1 → {half : List ℕ} → half ≡ otherHalf i saved → {q : Reply} {after : List ℕ}
@@ -238,7 +246,7 @@ module _ (given : Given) where
       -- the counts after the first half's search fit
       pub first-counted : Counts allowed s d → s < allowed → Counts allowed (r .splits) (r .«dead_ends»)
       first-counted c l =
-          let counted = search-counts fields (firstHalf i inner) (first-half-rooms inner i (saved-shrank .1) inside wide) allowed (s + 1) d (omega arith) in
+          let counted = search-counts fields (firstHalf i inner) first-rooms first-fits allowed (s + 1) d (omega arith) in
           let splits : r .splits ≡ begun .splits = ap (λ (g : Reply). g .splits) (found .reply) in
           let ends : r .«dead_ends» ≡ begun .deadEnds = ap (λ (g : Reply). g .«dead_ends») (found .reply) in
           record { ceiling = c .ceiling; within = omega (arith, counted .within); fewer = omega (arith, counted .fewer, counted .more, c .fewer) }

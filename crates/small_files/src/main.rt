@@ -6,7 +6,7 @@
 //
 // The enumeration, and the test whether a file is sound, are written from 01 alone and share nothing
 // with the planner but the bytes. The file `stdout` beside src/ has the lines that are right. It was
-// made by other means, by a model that was written from 01 and 02 (R-2): it makes the same files and
+// made by other means, by a model that was written from 01 and 02: it makes the same files and
 // the same calls, and for each call the refusal, or the splits and the dead ends of the search, from
 // sets of values.
 //

@@ -97,7 +97,7 @@ fn print_file(what: &[u8], file: &[u8]) {
 
 // The places whose counts are printed, in this order: FILES and DAMAGED, the replies by their
 // numbers, SPLITS, DEAD_ENDS, PLACES, CHECKSUM, COMPARISONS and DIFFERENCES.
-const PRINTED: [usize; 23] = [
+const PRINTED: [usize; 22] = [
     22,
     23,
     0,
@@ -114,7 +114,6 @@ const PRINTED: [usize; 23] = [
     18,
     19,
     20,
-    21,
     24,
     25,
     26,
@@ -130,7 +129,7 @@ pub(crate) fn print(tally: Tally) {
         b"files #\ndamaged files #\nPLAN #\nNONE #\nUNDECIDED #\n\
           refused, 10: #\nrefused, 11: #\nrefused, 12: #\nrefused, 13: #\n\
           refused, 14: #\nrefused, 15: #\nrefused, 16: #\nrefused, 17: #\n\
-          refused, 18: #\nrefused, 19: #\nrefused, 20: #\nstalled, 21: #\n\
+          refused, 18: #\nrefused, 19: #\nrefused, 20: #\n\
           splits #\ndead ends #\nplaces #\nchecksum #\ncomparisons #\ndifferences #\n",
     );
 }
@@ -154,7 +153,7 @@ fn print_piece(tally: Tally, byte: u8, next: usize) -> usize {
 
 // Prints a count, and answers which one is the next.
 fn print_count(tally: Tally, next: usize) -> usize {
-    if next < 23 {
+    if next < 22 {
         let place = PRINTED[next];
         if place < 32 {
             io::print_decimal(STDOUT_FILENO, tally.counts[place]);

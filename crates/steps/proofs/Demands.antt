@@ -1,17 +1,18 @@
 -- The user's demands 2 and 3, of the search of a file that is within 01's limits. Assumes nothing.
-use mathlib.Core.Path.{_≡_, sym, subst}
+use mathlib.Core.Path.{_≡_, sym, ap, subst}
 use mathlib.Core.Logic.{_↔_, _⊎_}
 use mathlib.Core.List.{List, []}
 use Prim.Native.Nat.{ℕ, _+_, _-_, _^_, _≤_, _<_}
 use native.Mathlib.Omega.{arith}
-use lib.Dec.{T}
+use lib.Dec.{T, leb}
 use lib.ListN.{length, getD}
 use Rattle.rules.specs.Rules.{File}
 use Rattle.rules.specs.Meaning.{Plan, FirstPlan}
 use Rattle.rules.specs.Writing.{fieldsOf, Within}
 use Rattle.rules.proofs.Writing.PlaceLaws.{meets-placed}
-use Rattle.steps.specs.Boxes.{boxSize}
-use Rattle.steps.specs.Search.{explored}
+use Rattle.steps.specs.Boxes.{openValues, boxSize}
+use Rattle.steps.specs.Reply.{Reply}
+use Rattle.steps.specs.Search.{search, nowhere, searched, never, explored}
 use Rattle.steps.specs.Special.{special, specialRules}
 use Rattle.steps.specs.Table.{startOf, planned, needed}
 use Rattle.steps.proofs.Boxes.BoxSizes.{start-assignments, start-rooms, start-length, start-size}
@@ -23,12 +24,13 @@ use Rattle.steps.proofs.Search.Counts.{Counted, search-counts, search-w
 use Rattle.steps.proofs.Search.Decided as decided
 use Rattle.steps.proofs.Search.Decided.{Start}
 use Rattle.steps.proofs.Search.Tree.{tree}
+use Rattle.steps.proofs.Search.Walk.{depth-never-matters}
 use Rattle.steps.proofs.Search.WideRooms.{wide-most}
 
 -- ---- the box that a search of a file starts with
 
 -- it has v rooms
-start-positions : (file : File) → length (startOf file) ≡ file .v
+pub start-positions : (file : File) → length (startOf file) ≡ file .v
 unfolding startOf
 start-positions file = start-length (file .v) (file .n)
 
@@ -80,26 +82,22 @@ module _ (file : File) (within : Within file) where
     unfolding planned
     number-decided = decided.answers start allowed .only
 
-    -- the search never stalls
-    pub never-stalled : planned file allowed .number ≡ 21 → ⊥
-    never-stalled e = omega (arith, number-decided)
-
     -- only a plan writes values
     pub planned-written : (planned file allowed .number ≡ 0 → ⊥) → planned file allowed .values ≡ []
     unfolding planned
-    planned-written = search-written (fieldsOf file) (startOf file) (start .rooms) allowed 0 0
+    planned-written = search-written (fieldsOf file) (startOf file) (start .rooms) (start .fits) allowed 0 0
 
     -- ---- demand 3
 
     -- with enough splits allowed the reply and its counts are those of the search without an allowance
     pub enough-allowed : needed file ≤ allowed → planned file allowed ≡ explored (fieldsOf file) (startOf file)
     unfolding planned needed
-    enough-allowed = allowance.enough-allowed (fieldsOf file) (startOf file) (start .rooms) allowed
+    enough-allowed = allowance.enough-allowed (fieldsOf file) (startOf file) (start .rooms) (start .fits) allowed
 
     -- the counts begin with no split and no dead end
     pub planned-counts : Counted allowed 0 0 (planned file allowed)
     unfolding planned
-    planned-counts = search-counts (fieldsOf file) (startOf file) (start .rooms) allowed 0 0 (omega arith)
+    planned-counts = search-counts (fieldsOf file) (startOf file) (start .rooms) (start .fits) allowed 0 0 (omega arith)
 
     -- NONE has one dead end more than splits
     pub none-counts : planned file allowed .number ≡ 1 → planned file allowed .deadEnds ≡ planned file allowed .splits + 1
@@ -124,6 +122,20 @@ module _ (file : File) (within : Within file) where
         decided.special-decides start allowed (subst (λ (v : ℕ). T (specialRules v (fieldsOf file))) (sym (start-positions file)) kind)
         (omega (arith, wide-most (startOf file), start-positions file))
 
-  -- the search is at most 64 * 31 splits deep
-  pub depth-bound : depth (tree (fieldsOf file) (startOf file) (start .rooms)) ≤ 1984
-  depth-bound = bounds.depth-bound (fieldsOf file) (startOf file) (start .rooms) (omega (arith, start-positions file, within .positions .1))
+  -- ---- how deep it goes
+
+  -- What the search answers where its depth runs out never matters: whatever that is, with more depth than the start has open values it is the same search.
+  pub planned-whatever : (deeper : List ℕ → ℕ → ℕ → Reply) (k : ℕ) → openValues (startOf file) < k → (allowed : ℕ)
+      → search deeper k (fieldsOf file) (leb allowed) (startOf file) 0 0 ≡ planned file allowed
+  unfolding planned searched
+  planned-whatever deeper k enough allowed = depth-never-matters (fieldsOf file) (startOf file) (start .rooms) (start .fits) deeper nowhere k _ enough (omega arith) (leb allowed) 0 0
+
+  -- so it is with the splits that it needs
+  pub needed-whatever : (deeper : List ℕ → ℕ → ℕ → Reply) (k : ℕ) → openValues (startOf file) < k → search deeper k (fieldsOf file) never (startOf file) 0 0 .splits ≡ needed file
+  unfolding needed explored
+  needed-whatever deeper k enough =
+      ap (λ (r : Reply). r .splits) (depth-never-matters (fieldsOf file) (startOf file) (start .rooms) (start .fits) deeper nowhere k _ enough (omega arith) never 0 0)
+
+  -- it is at most 64 * 31 splits deep
+  pub depth-bound : depth (tree (fieldsOf file) (startOf file) (start .rooms) (start .fits)) ≤ 1984
+  depth-bound = bounds.depth-bound (fieldsOf file) (startOf file) (start .rooms) (start .fits) (omega (arith, start-positions file, within .positions .1))

@@ -1,4 +1,5 @@
 pub mod Allowance
+pub mod AlwaysSplits
 pub mod Bounds
 pub mod Chosen
 pub mod Counts

@@ -1,4 +1,4 @@
--- Step 4 by example: which room of a box is split, by computation. The rooms are as shrinking leaves them. Assumes nothing.
+-- Step 4 by example: which room of a box is split, by computation. The rooms are as shrinking leaves them, but for the last example, a dead box. Assumes nothing.
 use mathlib.Core.Path.{_≡_, refl}
 use mathlib.Core.List.{List, [], _∷_, map}
 use Prim.Native.Nat.{ℕ}
@@ -61,8 +61,12 @@ by-another-value = example (equality 7 (1 ∷ 2 ∷ 3 ∷ 4 ∷ []) ∷ []) (3 �
 abbrev clause-by-clause : Example
 clause-by-clause = example (equality 7 (1 ∷ 2 ∷ 3 ∷ 4 ∷ 5 ∷ []) ∷ []) (3 ∷ 1 ∷ 2 ∷ 6 ∷ 6 ∷ []) 3
 
+-- [p1{2}], room {1}: a box that is dead is not settled, and has no room to split
+abbrev dead-box : Example
+dead-box = example (clause (at 1 2 ∷ []) ∷ []) (1 ∷ []) 1
+
 abbrev pub examples : List Example
-examples = no-rules ∷ unnamed ∷ settled-by-its-own ∷ settled-by-another ∷ named-and-not-live ∷ later-clause ∷ by-another-value ∷ clause-by-clause ∷ []
+examples = no-rules ∷ unnamed ∷ settled-by-its-own ∷ settled-by-another ∷ named-and-not-live ∷ later-clause ∷ by-another-value ∷ clause-by-clause ∷ dead-box ∷ []
 
 -- the chosen index of an example is the one that it names; the places of fields play no part
 abbrev pub Chosen : Example → Type 0
@@ -71,4 +75,4 @@ Chosen e = chosen (map (λ rule. record { place = 0; rule = rule }) (e .rules)) 
 -- each of them
 pub examples-hold : Every Chosen examples
 unfolding single union common inRange onlyIf isEmpty inside listedIf valuesFrom values count lowest atomIn equalityParts partsOf roomAt uniteIf united isLive settledBy settledClause someOf splittable chosen
-examples-hold = (refl, (refl, (refl, (refl, (refl, (refl, (refl, (refl, tt))))))))
+examples-hold = (refl, (refl, (refl, (refl, (refl, (refl, (refl, (refl, (refl, tt)))))))))

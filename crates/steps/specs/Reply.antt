@@ -26,10 +26,6 @@ none splits deadEnds = ended 1 splits deadEnds
 abbrev pub undecided : ℕ → ℕ → Reply
 undecided splits deadEnds = ended 2 splits deadEnds
 
--- a stall
-abbrev pub stalled : ℕ → ℕ → Reply
-stalled splits deadEnds = ended 21 splits deadEnds
-
 -- a refusal: zero splits and dead ends, nothing written
 abbrev pub refusal : ℕ → ℕ → Reply
 refusal number place = record { number = number; place = place; splits = 0; deadEnds = 0; values = [] }

@@ -8,7 +8,7 @@ use Rattle.lists.specs.Lowest.{lowest}
 use Rattle.rules.specs.Rules.{Field}
 use Rattle.steps.specs.Boxes.{openValues, wide, smallestOf, firstHalf, otherHalf}
 use Rattle.steps.specs.Shrinking.{ifAlive, ifTest, shrunk, settled, liveInFields}
-use Rattle.steps.specs.Reply.{Reply, plan, none, undecided, stalled}
+use Rattle.steps.specs.Reply.{Reply, plan, none, undecided}
 
 -- whether step 4 may split the room at an index: it has two or more values, and its position is live in some part that is not settled
 unfoldable pub splittable : List Field → List ℕ → ℕ → Bool
@@ -22,33 +22,35 @@ chosen fields box = lowest (splittable fields box) (length box)
 abbrev pub ifNone : Reply → (ℕ → ℕ → Reply) → Reply
 ifNone first later = elim (eqb (first .number) 1) [ true ↦ later (first .splits) (first .deadEnds) | false ↦ first ]
 
--- The search of a box, with the splits and the dead ends so far. The first number bounds how deep it calls itself.
-unfoldable pub search : ℕ → List Field → ℕ → List ℕ → ℕ → ℕ → Reply
-search zero fields allowed box s d = stalled s d
-search (suc k) fields allowed box s d =
-    ifAlive (shrunk fields box) (λ _. none s (d + 1)) λ box′.
-    ifTest (settled fields box′) (plan (smallestOf box′) s d) λ _.
-    ifTest (leb (length box′) (chosen fields box′)) (stalled s d) λ _.
-    ifTest (leb allowed s) (undecided s d) λ _.
-    ifNone (search k fields allowed (firstHalf (chosen fields box′) box′) (s + 1) d) λ s′ d′.
-    search k fields allowed (otherHalf (chosen fields box′) box′) s′ d′
-
--- the whole search: the number of open values falls at each call, so one more than those is deep enough
-unfoldable pub searched : List Field → ℕ → List ℕ → ℕ → ℕ → Reply
-searched fields allowed box s d = search (suc (openValues box)) fields allowed box s d
-
--- ---- without an allowance
-
--- the same search without an allowance
-unfoldable pub explore : ℕ → List Field → List ℕ → ℕ → ℕ → Reply
-explore zero fields box s d = stalled s d
-explore (suc k) fields box s d =
+-- One turn: steps 1 to 4 for a box, with the splits and the dead ends so far. `spent` says of the splits whether the allowance is used up; `again` searches
+-- the halves.
+abbrev pub turn : List Field → (ℕ → Bool) → List ℕ → ℕ → ℕ → (List ℕ → ℕ → ℕ → Reply) → Reply
+turn fields spent box s d again =
     ifAlive (shrunk fields box) (λ _. none s (d + 1)) λ inner.
     ifTest (settled fields inner) (plan (smallestOf inner) s d) λ _.
-    ifTest (leb (length inner) (chosen fields inner)) (stalled s d) λ _.
-    ifNone (explore k fields (firstHalf (chosen fields inner) inner) (s + 1) d) λ s′ d′.
-    explore k fields (otherHalf (chosen fields inner) inner) s′ d′
+    ifTest (spent s) (undecided s d) λ _.
+    ifNone (again (firstHalf (chosen fields inner) inner) (s + 1) d) λ s′ d′.
+    again (otherHalf (chosen fields inner) inner) s′ d′
 
--- the whole of it: what it gives, and the splits that it needs
+-- The search of a box: turn by turn. The number bounds how deep it goes, and `deeper` is what it answers where that is not enough.
+unfoldable pub search : (List ℕ → ℕ → ℕ → Reply) → ℕ → List Field → (ℕ → Bool) → List ℕ → ℕ → ℕ → Reply
+search deeper zero fields spent box s d = deeper box s d
+search deeper (suc k) fields spent box s d = turn fields spent box s d (search deeper k fields spent)
+
+-- ---- the whole search: the number of open values falls at each turn, so one more than those is deep enough
+
+-- what the whole search answers any deeper: it never comes there, so any other answer would do as well (`depth-never-matters`)
+abbrev pub nowhere : List ℕ → ℕ → ℕ → Reply
+nowhere box s d = undecided s d
+
+-- with an allowance
+unfoldable pub searched : List Field → ℕ → List ℕ → ℕ → ℕ → Reply
+searched fields allowed box s d = search nowhere (suc (openValues box)) fields (leb allowed) box s d
+
+-- an allowance that is never used up
+abbrev pub never : ℕ → Bool
+never s = false
+
+-- without an allowance: what it gives, and the splits that it needs
 unfoldable pub explored : List Field → List ℕ → Reply
-explored fields box = explore (suc (openValues box)) fields box 0 0
+explored fields box = search nowhere (suc (openValues box)) fields never box 0 0

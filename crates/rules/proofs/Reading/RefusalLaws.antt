@@ -1,5 +1,5 @@
--- The numbers and places of refusals: reading refuses with 13 to 20 alone, `refused-number`, at a place within the input, `refused-place`; else v and n are the header's, `read-limits`. Assumes nothing.
-use mathlib.Core.Path.{_≡_, refl, subst}
+-- The numbers and places of refusals: reading refuses with 13 to 20 alone, `refused-number`, at a place within the input, `refused-place`; else v and n are the header's, `read-limits`, and no rule has a fault, `read-faultless`. Assumes nothing.
+use mathlib.Core.Path.{_≡_, refl, sym, subst, subst₂}
 use mathlib.Core.Bool.{Bool, true, false}
 use mathlib.Core.List.{List, [], _∷_}
 use mathlib.Core.Logic.{_⊎_, inl, inr}
@@ -7,12 +7,14 @@ use Prim.Native.Nat.{ℕ, zero, suc, _+_, _≤_, _<_}
 use native.Mathlib.Omega.{arith}
 use lib.Dec.{lit≤}
 use lib.ListN.{length, getD, drop, length-drop}
+use Rattle.lists.specs.Lists.{Every}
 use Rattle.rules.specs.declared.field.Atom.{Atom}
 use Rattle.rules.specs.declared.field.Tag.{Tag}
 use Rattle.rules.specs.declared.field.Tag.the-variants.{Header, Clause, Equality, Unknown}
 use Rattle.rules.specs.Rules.{Rule, File, clause, equality}
 use Rattle.rules.specs.Reading.{faultIf, orElse, positionFault, setFault, atomFault, atomsFault, positionsFault, ruleFault, tagFault, bodyFault, fieldFault, headerBodyFault, headerFault}
 use Rattle.rules.specs.Reading.{Reading, sound, refused, refuseFor, withRule, ruleAt, sizeOf, readFields, reading}
+use Rattle.rules.proofs.Reading.FaultlessLaws.{field-fault-none}
 
 -- the numbers that reading refuses with
 abbrev Refusing : ℕ → Type 0
@@ -78,38 +80,39 @@ header-number bytes = search numbers depth 8
 
 -- ---- readings
 
--- a file with these v and n, or a refusal with one of these numbers at a place up to the end
+-- a file with these v and n and no rule with a fault, or a refusal with one of these numbers at a place up to the end
 abbrev Fine : ℕ → ℕ → ℕ → Reading → Type 0
-Fine v n end (sound file) = (file .v ≡ v) × (file .n ≡ n)
+Fine v n end (sound file) = (file .v ≡ v) × (file .n ≡ n) × Every (λ rule. ruleFault v n rule ≡ 0) (file .rules)
 Fine v n end (refused number place) = Refusing number × (place ≤ end)
 
 module _ (v n end : ℕ) where
-  refuse-for-fine : (fault place : ℕ) (rest : Unit {0} → Reading) → Fault fault → place ≤ end → Fine v n end (rest tt) → Fine v n end (refuseFor fault place rest)
-  refuse-for-fine zero place rest f h r = r
+  refuse-for-fine : (fault place : ℕ) (rest : Unit {0} → Reading) → Fault fault → place ≤ end → (fault ≡ 0 → Fine v n end (rest tt)) → Fine v n end (refuseFor fault place rest)
+  refuse-for-fine zero place rest f h r = r refl
   refuse-for-fine (suc number) place rest (inl e) h r = absurd (omega arith)
   refuse-for-fine (suc number) place rest (inr g) h r = (g, h)
 
-  with-rule-fine : (rule : Rule) (found : Reading) → Fine v n end found → Fine v n end (withRule rule found)
-  with-rule-fine rule (sound file) r = r
-  with-rule-fine rule (refused number place) r = r
+  with-rule-fine : (rule : Rule) (found : Reading) → ruleFault v n rule ≡ 0 → Fine v n end found → Fine v n end (withRule rule found)
+  with-rule-fine rule (sound file) e r = (r .0, r .1, (e, r .2))
+  with-rule-fine rule (refused number place) e r = r
 
   fields-fine : (k place : ℕ) (bytes : List ℕ) → (0 < length bytes → place + length bytes ≤ end) → Fine v n end (readFields k v n place bytes)
   unfolding readFields
-  fields-fine zero place bytes h = (refl, refl)
-  fields-fine (suc k) place [] h = (refl, refl)
+  fields-fine zero place bytes h = (refl, refl, tt)
+  fields-fine (suc k) place [] h = (refl, refl, tt)
   fields-fine (suc k) place (b ∷ bs) h =
       let bytes : List ℕ = b ∷ bs in
       let size : ℕ = sizeOf bytes in
       let rest : List ℕ = drop size bytes in
       let there : place + length bytes ≤ end = h (omega arith) in
       let later = fields-fine k (place + size) rest (λ l. omega (arith, length-drop size bytes)) in
-      refuse-for-fine (fieldFault v n bytes) place _ (field-number v n bytes) (omega arith) (with-rule-fine (ruleAt bytes) (readFields k v n (place + size) rest) later)
+      refuse-for-fine (fieldFault v n bytes) place _ (field-number v n bytes) (omega arith)
+      (λ e. with-rule-fine (ruleAt bytes) (readFields k v n (place + size) rest) (field-fault-none v n bytes .0 e .rule-faultless) later)
 
 reading-fine : (s : List ℕ) → Fine (getD s 3 0) (getD s 4 0) (length s) (reading s)
 unfolding reading
 reading-fine s =
     let fields = fields-fine (getD s 3 0) (getD s 4 0) (length s) (length s) 5 (drop 5 s) (λ l. omega (arith, length-drop 5 s)) in
-    refuse-for-fine (getD s 3 0) (getD s 4 0) (length s) (headerFault s) 0 _ (header-number s) (omega arith) fields
+    refuse-for-fine (getD s 3 0) (getD s 4 0) (length s) (headerFault s) 0 _ (header-number s) (omega arith) (λ e. fields)
 
 -- reading refuses with the numbers 13 to 20 alone
 pub refused-number : (s : List ℕ) (number place : ℕ) → reading s ≡ refused number place → (13 ≤ number) × (number ≤ 20)
@@ -119,6 +122,14 @@ refused-number s number place e = subst (Fine (getD s 3 0) (getD s 4 0) (length 
 pub refused-place : (s : List ℕ) (number place : ℕ) → reading s ≡ refused number place → place ≤ length s
 refused-place s number place e = subst (Fine (getD s 3 0) (getD s 4 0) (length s)) e (reading-fine s) .1
 
--- v and n of a file that was read are those of its header
-pub read-limits : (s : List ℕ) (file : File) → reading s ≡ sound file → (file .v ≡ getD s 3 0) × (file .n ≡ getD s 4 0)
-read-limits s file e = subst (Fine (getD s 3 0) (getD s 4 0) (length s)) e (reading-fine s)
+module _ (s : List ℕ) (file : File) (read : reading s ≡ sound file) where
+  file-fine : Fine (getD s 3 0) (getD s 4 0) (length s) (sound file)
+  file-fine = subst (Fine (getD s 3 0) (getD s 4 0) (length s)) read (reading-fine s)
+
+  -- v and n of a file that was read are those of its header
+  pub read-limits : (file .v ≡ getD s 3 0) × (file .n ≡ getD s 4 0)
+  read-limits = (file-fine .0, file-fine .1)
+
+  -- and none of its rules has a fault
+  pub read-faultless : Every (λ rule. ruleFault (file .v) (file .n) rule ≡ 0) (file .rules)
+  read-faultless = subst₂ (λ (v n : ℕ). Every (λ rule. ruleFault v n rule ≡ 0) (file .rules)) (sym (read-limits .0)) (sym (read-limits .1)) (file-fine .2)

@@ -1,5 +1,5 @@
 -- Laws of boxes: which assignments lie in them, and one box inside another. Assumes nothing.
-use mathlib.Core.Path.{_≡_, refl, ap, _∙_, subst}
+use mathlib.Core.Path.{_≡_, refl, sym, ap, _∙_, subst}
 use mathlib.Core.Logic.{_↔_}
 use mathlib.Core.List.{List, [], _∷_}
 use Prim.Native.Nat.{ℕ, zero, suc, _^_, _≤_, _<_, zero-le, suc-le-suc}
@@ -92,6 +92,10 @@ box-inside-paired = record { none = tt; longer-left = λ x a h. h; longer-right 
 -- a box inside another has as many rooms
 pub box-inside-length : (b c : List ℕ) → BoxInside b c → length b ≡ length c
 box-inside-length = paired-length box-inside-paired
+
+-- what holds of a box by its length holds of those inside
+pub same-length : (P : ℕ → Type 0) (b c : List ℕ) → BoxInside b c → P (length c) → P (length b)
+same-length P b c i = subst P (sym (box-inside-length b c i))
 
 -- each room lies inside the other box's
 pub box-inside-at : (b c : List ℕ) (i : ℕ) → BoxInside b c → T (inside (getD b i 0) (getD c i 0))

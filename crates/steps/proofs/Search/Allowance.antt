@@ -10,10 +10,11 @@ use borrow.Author.Tests.{lt-leb}
 use Rattle.rules.specs.Rules.{Field}
 use Rattle.steps.specs.Boxes.{Rooms}
 use Rattle.steps.specs.Reply.{Reply}
-use Rattle.steps.specs.Search.{ifNone, searched, explored}
+use Rattle.steps.specs.Search.{ifNone, searched, never, explored}
+use Rattle.steps.proofs.Looks.FittingRules.{FitsBox}
 use Rattle.steps.proofs.Search.Split.{none-later, other-stays, after-none, by-allowance}
-use Rattle.steps.proofs.Search.Tree.{Tree, dies, settles, stalls, divides, tree}
-use Rattle.steps.proofs.Search.Walk.{walk, never, searched-walks, explored-walks}
+use Rattle.steps.proofs.Search.Tree.{Tree, dies, settles, divides, tree}
+use Rattle.steps.proofs.Search.Walk.{walk, searched-walks, explored-walks}
 
 -- the splits needed are allowed, or they are not
 pub enough-or-not : (needed allowed : ℕ) → (needed ≤ allowed) ⊎ (allowed < needed)
@@ -27,7 +28,6 @@ enough-or-not needed allowed = go (decLe needed allowed)
 pub walk-more : {fields : List Field} {box : List ℕ} (t : Tree fields box) (s d : ℕ) → s ≤ walk t never s d .splits
 walk-more (dies place rooms e) s d = omega arith
 walk-more (settles m t) s d = omega arith
-walk-more (stalls m u l) s d = omega arith
 walk-more (divides m u at p f o) s d =
     let first = walk f never (s + 1) d in
     let more = walk-more f (s + 1) d in
@@ -45,7 +45,6 @@ walk-enough : {fields : List Field} {box : List ℕ} (t : Tree fields box) (allo
     → walk t (leb allowed) s d ≡ walk t never s d
 walk-enough (dies place rooms e) allowed s d h = refl
 walk-enough (settles m t) allowed s d h = refl
-walk-enough (stalls m u l) allowed s d h = refl
 walk-enough (divides m u at p f o) allowed s d h =
     let first = walk f never (s + 1) d in
     let least = splits-least f o s d in
@@ -64,7 +63,6 @@ walk-too-few : {fields : List Field} {box : List ℕ} (t : Tree fields box) (all
     → Spent allowed (walk t (leb allowed) s d)
 walk-too-few (dies place rooms e) allowed s d h g = absurd (omega arith)
 walk-too-few (settles m t) allowed s d h g = absurd (omega arith)
-walk-too-few (stalls m u l) allowed s d h g = absurd (omega arith)
 walk-too-few (divides m u at p f o) allowed s d h g =
     let first = walk f never (s + 1) d in
     let begun = walk f (leb allowed) (s + 1) d in
@@ -77,16 +75,16 @@ walk-too-few (divides m u at p f o) allowed s d h g =
     (λ m. let spent = walk-too-few f allowed (s + 1) d (omega arith) m in rw (other-stays begun later (λ e. omega (arith, e, spent .0))) spent)
     (enough-or-not (first .splits) allowed))
 
-module _ (fields : List Field) (box : List ℕ) (rooms : Rooms box) (allowed : ℕ) where
+module _ (fields : List Field) (box : List ℕ) (rooms : Rooms box) (fits : FitsBox fields box) (allowed : ℕ) where
   -- a search with enough splits allowed is the search without an allowance
   pub enough-allowed : explored fields box .splits ≤ allowed → searched fields allowed box 0 0 ≡ explored fields box
   enough-allowed h =
-      let t = tree fields box rooms in
+      let t = tree fields box rooms fits in
       let same = explored-walks t in
       searched-walks t allowed 0 0 ∙ walk-enough t allowed 0 0 (omega (arith, ap (λ (r : Reply). r .splits) same)) ∙ sym same
 
   -- a search with too few spends them all and is undecided
   pub too-few-allowed : allowed < explored fields box .splits → Spent allowed (searched fields allowed box 0 0)
   too-few-allowed h =
-      let t = tree fields box rooms in
+      let t = tree fields box rooms fits in
       rw (searched-walks t allowed 0 0) (walk-too-few t allowed 0 0 (omega arith) (omega (arith, ap (λ (r : Reply). r .splits) (explored-walks t))))

@@ -8,12 +8,13 @@ use Rattle.sets.proofs.Counting.{count-at-most, count-positive}
 use Rattle.rules.specs.Rules.{Field}
 use Rattle.steps.specs.Boxes.{openValues, boxSize, Rooms, firstHalf, otherHalf}
 use Rattle.steps.specs.Reply.{Reply}
-use Rattle.steps.specs.Search.{explored}
+use Rattle.steps.specs.Search.{never, explored}
 use Rattle.steps.proofs.Boxes.BoxLaws.{box-inside-length}
 use Rattle.steps.proofs.Boxes.BoxSizes.{size-inside, size-positive, half-sizes}
+use Rattle.steps.proofs.Looks.FittingRules.{FitsBox}
 use Rattle.steps.proofs.Search.Split.{after-none}
-use Rattle.steps.proofs.Search.Tree.{Tree, dies, settles, stalls, divides, first-smaller, other-smaller, tree}
-use Rattle.steps.proofs.Search.Walk.{walk, never, explored-walks}
+use Rattle.steps.proofs.Search.Tree.{Tree, dies, settles, divides, first-smaller, other-smaller, tree}
+use Rattle.steps.proofs.Search.Walk.{walk, explored-walks}
 
 -- ---- the number of splits
 
@@ -21,7 +22,6 @@ use Rattle.steps.proofs.Search.Walk.{walk, never, explored-walks}
 walk-bound : {fields : List Field} {box : List ℕ} (t : Tree fields box) (s d : ℕ) → walk t never s d .splits < s + boxSize box
 walk-bound {box = box} (dies place rooms e) s d = omega (arith, size-positive box rooms)
 walk-bound {box = box} (settles m t) s d = omega (arith, size-positive box (m .before))
-walk-bound {box = box} (stalls m u l) s d = omega (arith, size-positive box (m .before))
 walk-bound {box = box} (divides {inner = inner} {i = i} m u at p f o) s d =
     let first = walk f never (s + 1) d in
     let begun = walk-bound f (s + 1) d in
@@ -32,17 +32,16 @@ walk-bound {box = box} (divides {inner = inner} {i = i} m u at p f o) s d =
     after-none first (walk o never) (λ (r : Reply). r .splits < s + boxSize box) (λ e. omega arith) (λ ne. omega arith)
 
 -- the splits that a search of a box needs are fewer than its assignments
-pub explore-bound : (fields : List Field) (box : List ℕ) → Rooms box → explored fields box .splits < boxSize box
-explore-bound fields box rooms = let t = tree fields box rooms in rw (explored-walks t) (omega (arith, walk-bound t 0 0))
+pub explore-bound : (fields : List Field) (box : List ℕ) → Rooms box → FitsBox fields box → explored fields box .splits < boxSize box
+explore-bound fields box rooms fits = let t = tree fields box rooms fits in rw (explored-walks t) (omega (arith, walk-bound t 0 0))
 
 -- ---- the number of splits one below another
 
--- How many splits deep the search of a box goes: none where the box is dead, settled or without a room to split, else one more than the deeper of its
+-- How many splits deep the search of a box goes: none where the box is dead or settled, else one more than the deeper of its
 -- two halves. Both halves count, also where the first has a plan and the other is not searched: so a search goes this deep at most.
 abbrev pub depth : {fields : List Field} {box : List ℕ} → Tree fields box → ℕ
 depth (dies place rooms e) = 0
 depth (settles m t) = 0
-depth (stalls m u l) = 0
 depth (divides m u at p f o) = 1 + max (depth f) (depth o)
 
 -- each room has an open value at least, and 32 at most
@@ -56,7 +55,6 @@ rooms-open (room ∷ box) rooms =
 pub depth-open : {fields : List Field} {box : List ℕ} (t : Tree fields box) → depth t + length box ≤ openValues box
 depth-open {box = box} (dies place rooms e) = omega (arith, rooms-open box rooms)
 depth-open {box = box} (settles m t) = omega (arith, rooms-open box (m .before))
-depth-open {box = box} (stalls m u l) = omega (arith, rooms-open box (m .before))
 depth-open {box = box} (divides {inner = inner} {i = i} m u at p f o) =
     let first = first-smaller m p in
     let other = other-smaller m p in
@@ -69,5 +67,5 @@ depth-open {box = box} (divides {inner = inner} {i = i} m u at p f o) =
     )
 
 -- in a box of at most 64 positions a search goes at most 64 * 31 splits deep
-pub depth-bound : (fields : List Field) (box : List ℕ) (rooms : Rooms box) → length box ≤ 64 → depth (tree fields box rooms) ≤ 1984
-depth-bound fields box rooms few = omega (arith, depth-open (tree fields box rooms), rooms-open box rooms)
+pub depth-bound : (fields : List Field) (box : List ℕ) (rooms : Rooms box) (fits : FitsBox fields box) → length box ≤ 64 → depth (tree fields box rooms fits) ≤ 1984
+depth-bound fields box rooms fits few = omega (arith, depth-open (tree fields box rooms fits), rooms-open box rooms)

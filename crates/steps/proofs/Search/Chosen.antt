@@ -1,7 +1,6 @@
--- Step 4: where a box may be split (`chosen-splits`), and that a box from which nothing can be cut is settled exactly if there is no such place (`settled-exactly`). Assumes nothing.
-use mathlib.Core.Path.{_≡_, refl, sym, subst}
+-- Step 4: the index that is chosen, and that a box may be split there (`chosen-splits`). Assumes nothing.
+use mathlib.Core.Path.{_≡_, sym, subst}
 use mathlib.Core.Logic.{_↔_, _⊎_}
-use mathlib.Core.Bool.{Bool, true, false}
 use mathlib.Core.List.{List}
 use Prim.Native.Nat.{ℕ, _+_, _-_, _≤_, _<_}
 use native.Mathlib.Nat.{le-refl}
@@ -9,20 +8,19 @@ use native.Mathlib.Decide.{decLt}
 use native.Mathlib.Omega.{arith}
 use lib.Dec.{T}
 use lib.ListN.{length, getD}
-use Rattle.lists.proofs.LowestLaws.{lowest-most, lowest-passes, lowest-before, lowest-none}
-use Rattle.lists.proofs.TestLaws.{true-test}
+use Rattle.lists.proofs.LowestLaws.{lowest-most, lowest-passes, lowest-at-most}
 use Rattle.sets.specs.Sets.{count}
 use Rattle.rules.specs.Rules.{Field}
 use Rattle.rules.specs.Meaning.{MeetsFields, Before, valueAt}
-use Rattle.steps.specs.Boxes.{roomAt, InBox, Rooms, firstHalf, otherHalf}
-use Rattle.steps.specs.Shrinking.{alive, round, settled, liveInFields}
+use Rattle.steps.specs.Boxes.{InBox, Rooms, firstHalf, otherHalf}
+use Rattle.steps.specs.Shrinking.{liveInFields}
 use Rattle.steps.specs.Search.{splittable, chosen}
 use Rattle.steps.proofs.Boxes.BoxLaws.{in-box-inside}
 use Rattle.steps.proofs.Boxes.BoxSizes.{wide-and, first-half-inside}
 use Rattle.steps.proofs.Boxes.Lowered.{lowered, lowered-same, lowered-in-half, lowered-itself, halves-in-order}
-use Rattle.steps.proofs.Looks.LiveTests.{settled-none-live, live-in-range, live-in-fields}
+use Rattle.steps.proofs.Looks.LiveTests.{live-in-range, live-in-fields}
 use Rattle.steps.proofs.Looks.FittingRules.{FieldsFit}
-use Rattle.steps.proofs.Looks.ShrinkLaws.{LiveInFields, round-steady, agree-where-live}
+use Rattle.steps.proofs.Looks.ShrinkLaws.{LiveInFields, agree-where-live}
 
 -- a plan of a box: an assignment in it that meets all rules
 abbrev pub PlanIn : List Field → List ℕ → List ℕ → Type 0
@@ -56,24 +54,23 @@ module _ (fields : List Field) (box : List ℕ) where
   unfolding chosen
   chosen-two h = may-split (chosen fields box) .0 (lowest-passes (splittable fields box) (length box) h) .0
 
-  -- a position that is live in a part that is not settled and has two or more values is the chosen one, or behind it
-  pub chosen-at-most : (p : ℕ) → LiveInFields fields box p → 2 ≤ count (getD box (p - 1) 0) → chosen fields box < p
+  -- an index that may be split is the chosen one, or behind it
+  pub chosen-lowest : (i : ℕ) → T (splittable fields box i) → chosen fields box ≤ i
   unfolding chosen
-  chosen-at-most p live two = go (decLt (chosen fields box) p)
-    where
-      range : (1 ≤ p) × (p ≤ length box)
-      range = live-in-range fields box p live
+  chosen-lowest = lowest-at-most (splittable fields box) (length box)
 
-      same : p ≡ p - 1 + 1
-      same = omega (arith, range .0)
+  -- a position that is live in a part that is not settled and has two or more values may be split
+  pub live-splits : (p : ℕ) → LiveInFields fields box p → 2 ≤ count (getD box (p - 1) 0) → T (splittable fields box (p - 1))
+  live-splits p live two =
+      let range = live-in-range fields box p live in
+      let same : p ≡ p - 1 + 1 = omega (arith, range .0) in
+      may-split (p - 1) .1 (two, subst (λ (q : ℕ). T (liveInFields fields box q)) same (live-in-fields box p (range .0) (range .1) fields .1 live))
 
-      go : Dec (chosen fields box < p) → chosen fields box < p
-      go (yes l) = l
-      go (no l) =
-          let test = subst (λ (q : ℕ). T (liveInFields fields box q)) same (live-in-fields box p (range .0) (range .1) fields .1 live) in
-          absurd (lowest-before (splittable fields box) (length box) (p - 1) (omega (arith, range .0)) (may-split (p - 1) .1 (two, test)))
+  -- so it is the chosen one, or behind it
+  pub chosen-at-most : (p : ℕ) → LiveInFields fields box p → 2 ≤ count (getD box (p - 1) 0) → chosen fields box < p
+  chosen-at-most p live two = omega (arith, live-in-range fields box p live .0, chosen-lowest (p - 1) (live-splits p live two))
 
-  -- so before the chosen index a position that is live in such a part has one value
+  -- and before the chosen index a position that is live in such a part has one value
   chosen-before : (p : ℕ) → p ≤ chosen fields box → LiveInFields fields box p → count (getD box (p - 1) 0) < 2
   chosen-before p h live = go (decLt (count (getD box (p - 1) 0)) 2)
     where
@@ -104,26 +101,3 @@ module _ (fields : List Field) (box : List ℕ) where
           let inner = first-half-inside box i rooms there (chosen-two there) in
           let meets = lowered-plan i (le-refl i) rooms fits a (in-box-inside a (firstHalf i box) box (f .0 .0) inner) (in-box-inside (lowered i box a) (firstHalf i box) box low inner) (f .0 .1) in
           subst (λ (c : List ℕ). Before c b) (lowered-itself box i rooms a (f .0 .0) (f .1 (lowered i box a) (low, meets))) (halves-in-order box i rooms there a b (f .0 .0) (g .0))
-
-  -- ---- the end of the search
-
-  -- in a settled box no room may be split
-  pub none-left : settled fields box ≡ true → chosen fields box ≡ length box
-  unfolding chosen
-  none-left e =
-      lowest-none (splittable fields box) (length box)
-      (λ i h t. settled-none-live fields box (i + 1) (true-test (settled fields box) e) (may-split i .0 t .1))
-
-  module _ (rooms : Rooms box) (fits : FieldsFit (length box) fields) (fixed : round fields box ≡ alive box) where
-    -- an unsettled box in which nothing is left to cut has a room to split: the search never stalls
-    pub never-stalls : settled fields box ≡ false → chosen fields box < length box
-    unfolding roomAt
-    never-stalls u = let s = round-steady fields box rooms fits fixed u in omega (arith, s .3, chosen-at-most (s .0) (s .1) (s .4))
-
-    -- it is settled exactly if no room may be split
-    pub settled-exactly : (settled fields box ≡ true) ↔ (chosen fields box ≡ length box)
-    settled-exactly = (none-left, λ e. go e (settled fields box) refl)
-      where
-        go : chosen fields box ≡ length box → (b : Bool) → settled fields box ≡ b → settled fields box ≡ true
-        go e true t = t
-        go e false u = absurd (omega (arith, never-stalls u))

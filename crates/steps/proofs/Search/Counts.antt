@@ -9,9 +9,10 @@ use Rattle.rules.specs.Rules.{Field}
 use Rattle.steps.specs.Boxes.{Rooms}
 use Rattle.steps.specs.Reply.{Reply}
 use Rattle.steps.specs.Search.{searched, explored}
+use Rattle.steps.proofs.Looks.FittingRules.{FitsBox}
 use Rattle.steps.proofs.Search.Allowance.{enough-allowed}
 use Rattle.steps.proofs.Search.Split.{after-none, by-allowance}
-use Rattle.steps.proofs.Search.Tree.{Tree, dies, settles, stalls, divides, tree}
+use Rattle.steps.proofs.Search.Tree.{Tree, dies, settles, divides, tree}
 use Rattle.steps.proofs.Search.Walk.{walk, searched-walks}
 
 -- what a reply counts beyond the splits s and the dead ends d before it
@@ -26,7 +27,6 @@ pub record Counted (allowed s d : ℕ) (r : Reply) : Type 0 where
 walk-counts : {fields : List Field} {box : List ℕ} (t : Tree fields box) (allowed s d : ℕ) → s ≤ allowed → Counted allowed s d (walk t (leb allowed) s d)
 walk-counts (dies place rooms e) allowed s d h = omega arith
 walk-counts (settles m t) allowed s d h = omega arith
-walk-counts (stalls m u l) allowed s d h = omega arith
 walk-counts (divides m u at p f o) allowed s d h =
     let first = walk f (leb allowed) (s + 1) d in
     by-allowance first (walk o (leb allowed)) (Counted allowed s d) allowed s d (λ spent. omega arith)
@@ -43,19 +43,6 @@ walk-counts (divides m u at p f o) allowed s d h =
     })
     (λ ne. omega (arith, c .others ne)))
 
--- a search counts on from the splits and the dead ends that it is given
-pub search-counts : (fields : List Field) (box : List ℕ) → Rooms box → (allowed s d : ℕ) → s ≤ allowed → Counted allowed s d (searched fields allowed box s d)
-search-counts fields box rooms allowed s d h =
-    let t = tree fields box rooms in
-    rw (searched-walks t allowed s d) (walk-counts t allowed s d h)
-
--- without an allowance too, NONE has one dead end more than splits
-pub none-explored : (fields : List Field) (box : List ℕ) → Rooms box → explored fields box .number ≡ 1 → explored fields box .deadEnds ≡ explored fields box .splits + 1
-none-explored fields box rooms e =
-    let enough = explored fields box .splits in
-    let c = rw (enough-allowed fields box rooms enough (omega arith)) at (search-counts fields box rooms enough 0 0 (omega arith)) in
-    omega (arith, c .none e)
-
 -- only a plan writes values
 abbrev pub Written : Reply → Type 0
 Written r = (r .number ≡ 0 → ⊥) → r .values ≡ []
@@ -63,13 +50,26 @@ Written r = (r .number ≡ 0 → ⊥) → r .values ≡ []
 walk-written : {fields : List Field} {box : List ℕ} (t : Tree fields box) (allowed s d : ℕ) → Written (walk t (leb allowed) s d)
 walk-written (dies place rooms e) allowed s d = λ n. refl
 walk-written (settles m t) allowed s d = λ n. absurd (n refl)
-walk-written (stalls m u l) allowed s d = λ n. refl
 walk-written (divides m u at p f o) allowed s d =
     let first = walk f (leb allowed) (s + 1) d in
     let later = walk o (leb allowed) in
     by-allowance first later Written allowed s d (λ spent n. refl)
     (λ left. after-none first later Written (λ e. walk-written o allowed (first .splits) (first .deadEnds)) (λ ne. walk-written f allowed (s + 1) d))
 
--- so a search does
-pub search-written : (fields : List Field) (box : List ℕ) → Rooms box → (allowed s d : ℕ) → Written (searched fields allowed box s d)
-search-written fields box rooms allowed s d = let t = tree fields box rooms in rw (searched-walks t allowed s d) (walk-written t allowed s d)
+-- ---- the search of a box
+
+module _ (fields : List Field) (box : List ℕ) (rooms : Rooms box) (fits : FitsBox fields box) where
+  -- a search counts on from the splits and the dead ends that it is given
+  pub search-counts : (allowed s d : ℕ) → s ≤ allowed → Counted allowed s d (searched fields allowed box s d)
+  search-counts allowed s d h = let t = tree fields box rooms fits in rw (searched-walks t allowed s d) (walk-counts t allowed s d h)
+
+  -- without an allowance too, NONE has one dead end more than splits
+  pub none-explored : explored fields box .number ≡ 1 → explored fields box .deadEnds ≡ explored fields box .splits + 1
+  none-explored e =
+      let enough = explored fields box .splits in
+      let c = rw (enough-allowed fields box rooms fits enough (omega arith)) at (search-counts enough 0 0 (omega arith)) in
+      omega (arith, c .none e)
+
+  -- only a plan writes values
+  pub search-written : (allowed s d : ℕ) → Written (searched fields allowed box s d)
+  search-written allowed s d = let t = tree fields box rooms fits in rw (searched-walks t allowed s d) (walk-written t allowed s d)

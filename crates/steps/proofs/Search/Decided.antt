@@ -12,9 +12,10 @@ use Rattle.steps.specs.Shrinking.{Look, dead, alive, shrunk}
 use Rattle.steps.specs.Reply.{Reply}
 use Rattle.steps.specs.Search.{searched, explored}
 use Rattle.steps.specs.Special.{specialRules}
+use Rattle.steps.proofs.Looks.FittingRules.{FitsBox}
 use Rattle.steps.proofs.Search.Allowance.{Spent, enough-or-not, enough-allowed, too-few-allowed}
 use Rattle.steps.proofs.Search.Bounds.{explore-bound}
-use Rattle.steps.proofs.Search.Says.{Same, Says, says-same, FitsBox, explored-says}
+use Rattle.steps.proofs.Search.Says.{Same, Says, says-same, explored-says}
 use Rattle.steps.proofs.Search.Special.{special-none, special-plan}
 use Rattle.steps.proofs.Search.Chosen.{PlanIn, First}
 use Rattle.steps.proofs.Search.WideRooms.{wideRooms}
@@ -51,11 +52,11 @@ module _ {fields : List Field} {box : List ℕ} {Plan : List ℕ → Type 0} (st
 
   -- enough splits are allowed, and the reply is that of the search without an allowance
   enough : needs ≤ allowed → reply ≡ explored fields box
-  enough = enough-allowed fields box (start .rooms) allowed
+  enough = enough-allowed fields box (start .rooms) (start .fits) allowed
 
   -- or they are not, and all are spent
   too-few : allowed < needs → Spent allowed reply
-  too-few = too-few-allowed fields box (start .rooms) allowed
+  too-few = too-few-allowed fields box (start .rooms) (start .fits) allowed
 
   -- with enough, what is said is right
   says : needs ≤ allowed → Says Plan reply
@@ -79,7 +80,7 @@ module _ {fields : List Field} {box : List ℕ} {Plan : List ℕ → Type 0} (st
   -- splits stay below the number of assignments
   pub splits-bound : reply .splits ≤ boxSize box - 1
   splits-bound =
-      let bound = explore-bound fields box (start .rooms) in
+      let bound = explore-bound fields box (start .rooms) (start .fits) in
       ⊎-elim (λ h. omega (arith, ap (λ (r : Reply). r .splits) (enough h))) (λ h. omega (arith, too-few h)) (enough-or-not needs allowed)
 
   -- NONE at no split, or a plan at no dead end, at no position higher than any other plan

@@ -1,27 +1,25 @@
 -- What the search says of a box is right: a plan is the first, and NONE means that there is none (`explored-says`). Assumes nothing.
 use mathlib.Core.Path.{_≡_, refl, subst}
 use mathlib.Core.Logic.{_↔_, _⊎_, inl, inr, ⊎-elim, ⊎-map}
-use mathlib.Core.Bool.{false}
 use mathlib.Core.List.{List}
-use Prim.Native.Nat.{ℕ, _+_, _<_}
+use Prim.Native.Nat.{ℕ, _+_}
 use native.Mathlib.Omega.{arith}
-use lib.ListN.{length}
 use Rattle.lists.proofs.TestLaws.{true-test}
 use Rattle.rules.specs.Rules.{Field}
 use Rattle.rules.specs.Meaning.{Before}
-use Rattle.steps.specs.Boxes.{InBox, BoxInside, Rooms, smallestOf, firstHalf, otherHalf}
+use Rattle.steps.specs.Boxes.{InBox, Rooms, smallestOf, firstHalf, otherHalf}
 use Rattle.steps.specs.Shrinking.{dead, shrunk, settled}
 use Rattle.steps.specs.Reply.{Reply, plan}
-use Rattle.steps.specs.Search.{chosen, ifNone, explored}
+use Rattle.steps.specs.Search.{ifNone, never, explored}
 use Rattle.steps.proofs.Boxes.BoxLaws.{in-box-inside}
 use Rattle.steps.proofs.Boxes.BoxSizes.{smallest-in-box, smallest-first, first-half-inside, other-half-inside, in-a-half}
 use Rattle.steps.proofs.Looks.InTurn.{dead-not-alive}
-use Rattle.steps.proofs.Looks.FittingRules.{FieldsFit}
+use Rattle.steps.proofs.Looks.FittingRules.{FitsBox, fits-inside}
 use Rattle.steps.proofs.Looks.ShrinkLaws.{shrunk-sound, settled-met}
 use Rattle.steps.proofs.Search.Split.{after-none}
-use Rattle.steps.proofs.Search.Chosen.{PlanIn, First, SplitAt, never-stalls}
-use Rattle.steps.proofs.Search.Tree.{Shrinks, Tree, dies, settles, stalls, divides, same-length, first-smaller, other-smaller, tree}
-use Rattle.steps.proofs.Search.Walk.{walk, never, explored-walks}
+use Rattle.steps.proofs.Search.Chosen.{PlanIn, First, SplitAt}
+use Rattle.steps.proofs.Search.Tree.{Shrinks, Tree, dies, settles, divides, first-smaller, other-smaller, tree}
+use Rattle.steps.proofs.Search.Walk.{walk, explored-walks}
 
 -- two descriptions of the same plans
 abbrev pub Same : (List ℕ → Type 0) → (List ℕ → Type 0) → Type 0
@@ -48,15 +46,7 @@ says-split P F O both ordered first later f o =
     (λ h. inl (h .0, (both (first .values) .1 (inl (h .1 .0)), λ a q. ⊎-elim (h .1 .1 a) (λ i. inr (ordered (first .values) a (h .1) i)) (both a .0 q))))
     (λ h. absurd (ne (h .0))) f)
 
--- the rules fit the positions of the box
-abbrev pub FitsBox : List Field → List ℕ → Type 0
-FitsBox fields box = FieldsFit (length box) fields
-
 module _ (fields : List Field) where
-  -- rules that fit a box fit every box inside
-  pub fits-inside : (b c : List ℕ) → BoxInside b c → FitsBox fields c → FitsBox fields b
-  fits-inside = same-length (λ v. FieldsFit v fields)
-
   -- a box with a plan is not dead
   pub plan-lives : (box a : List ℕ) (place : ℕ) → Rooms box → FitsBox fields box → PlanIn fields box a → shrunk fields box ≡ dead place → ⊥
   plan-lives box a place rooms fits p e =
@@ -66,7 +56,7 @@ module _ (fields : List Field) where
   module _ {box inner : List ℕ} (m : Shrinks fields box inner) (fits : FitsBox fields box) where
     -- the rules fit the shrunk box too
     pub inner-fits : FitsBox fields inner
-    inner-fits = fits-inside inner box (m .inside) fits
+    inner-fits = fits-inside fields inner box (m .inside) fits
 
     -- a box shrinks to one with the same plans
     pub shrunk-plans : Same (PlanIn fields inner) (PlanIn fields box)
@@ -77,10 +67,6 @@ module _ (fields : List Field) where
             let found = shrunk-sound fields box a (m .before) fits (p .0) (p .1) in
             let same : found .0 ≡ inner = cc (found .1, m .shrank) in
             (subst (InBox a) same (found .2), p .1)
-
-    -- a shrunk box that is not settled has a room to split
-    pub splits-somewhere : settled fields inner ≡ false → chosen fields inner < length inner
-    splits-somewhere = never-stalls fields inner (m .rooms) inner-fits (m .fixed)
 
   -- the plans of a box are those of its halves
   half-plans : (box : List ℕ) (i : ℕ) → Rooms box → SplitAt fields box i → (a : List ℕ)
@@ -98,15 +84,14 @@ module _ (fields : List Field) where
       let meets = settled-met fields inner (smallestOf inner) (inner-fits m fits) (true-test (settled fields inner) t) there in
       says-same (PlanIn fields inner) (PlanIn fields box) (plan (smallestOf inner) s d) (shrunk-plans m fits)
       (inl (refl, ((there, meets), λ a p. smallest-first inner a (m .rooms) (p .0))))
-  walk-says (stalls m u l) fits s d = absurd (omega (arith, splits-somewhere m fits u))
   walk-says {box} (divides {inner = inner} {i = i} m u at p f o) fits s d =
       let first = walk f never (s + 1) d in
       says-same (PlanIn fields inner) (PlanIn fields box) (ifNone first (walk o never)) (shrunk-plans m fits)
       (says-split (PlanIn fields inner) (PlanIn fields (firstHalf i inner)) (PlanIn fields (otherHalf i inner)) (half-plans inner i (m .rooms) p) (p .ordered (inner-fits m fits))
       first (walk o never)
-      (walk-says f (fits-inside (firstHalf i inner) box (first-smaller m p .inside) fits) (s + 1) d)
-      (walk-says o (fits-inside (otherHalf i inner) box (other-smaller m p .inside) fits)))
+      (walk-says f (fits-inside fields (firstHalf i inner) box (first-smaller m p .inside) fits) (s + 1) d)
+      (walk-says o (fits-inside fields (otherHalf i inner) box (other-smaller m p .inside) fits)))
 
 -- what the search without an allowance says of a box is right
 pub explored-says : (fields : List Field) (box : List ℕ) → Rooms box → FitsBox fields box → Says (PlanIn fields box) (explored fields box)
-explored-says fields box rooms fits = let t = tree fields box rooms in rw (explored-walks t) (walk-says fields t fits 0 0)
+explored-says fields box rooms fits = let t = tree fields box rooms fits in rw (explored-walks t) (walk-says fields t fits 0 0)

@@ -17,9 +17,9 @@ use Rattle.lists.proofs.ListLaws.{every-of-listed, every-at}
 use Rattle.steps.specs.Boxes.{InBox, Rooms, smallestOf, firstHalf}
 use Rattle.steps.specs.Shrinking.{lookPart, dead, alive, lookRule, round, shrunk}
 use Rattle.steps.specs.Reply.{Reply, none}
-use Rattle.steps.specs.Search.{explore, explored}
+use Rattle.steps.specs.Search.{search, never, explored}
 use Rattle.steps.specs.Special.{specialRule, specialRules}
-use Rattle.steps.proofs.Boxes.BoxLaws.{in-box-set, rooms-at}
+use Rattle.steps.proofs.Boxes.BoxLaws.{same-length, in-box-set, rooms-at}
 use Rattle.steps.proofs.Boxes.BoxSizes.{smallest-in-box, smallest-lowest}
 use Rattle.steps.proofs.Looks.InTurn.{in-turn-fixed, all-passed}
 use Rattle.steps.proofs.Looks.PartLaws.{part-inside}
@@ -29,9 +29,9 @@ use Rattle.steps.proofs.Special.LadderLaws.{smallest-at, ladder-clause-
 use Rattle.steps.proofs.Special.SpecialExactly.{special-few}
 use Rattle.steps.proofs.Search.Split.{other-stays}
 use Rattle.steps.proofs.Search.Chosen.{PlanIn}
-use Rattle.steps.proofs.Search.Tree.{Shrinks, Tree, dies, settles, stalls, divides, same-length, shrinks, first-smaller, tree}
-use Rattle.steps.proofs.Search.Walk.{walk, never, explored-walks}
-use Rattle.steps.proofs.Search.Says.{plan-lives, shrunk-plans, splits-somewhere}
+use Rattle.steps.proofs.Search.Tree.{Shrinks, Tree, dies, settles, divides, shrinks, first-smaller, tree}
+use Rattle.steps.proofs.Search.Walk.{walk, explored-walks}
+use Rattle.steps.proofs.Search.Says.{plan-lives, shrunk-plans}
 use Rattle.steps.proofs.Search.WideRooms.{wideRooms, wide-inside, wide-falls}
 
 -- ---- the smallest values
@@ -92,7 +92,7 @@ module _ (fields : List Field) where
 
   -- where the box dies in shrinking, there is no plan, at that one dead end and without a split
   pub special-none : (box : List ℕ) (place : ℕ) → shrunk fields box ≡ dead place → explored fields box ≡ none 0 1
-  unfolding explored explore
+  unfolding explored search
   special-none box place e = rw e
 
   module _ {box inner : List ℕ} (m : Shrinks fields box inner) (fits : SpecialFits (length box)) where
@@ -109,7 +109,6 @@ module _ (fields : List Field) where
       → FoundLow fields box s d (walk t never s d)
   walk-low {box} (dies place rooms e) fits a p s d = absurd (plan-lives fields box a place rooms (fits .0) p e)
   walk-low (settles m t) fits a p s d = record { number = refl; deadEnds = refl; splits = omega arith; lowest = least-lowest m fits }
-  walk-low (stalls m u l) fits a p s d = absurd (omega (arith, splits-somewhere fields m (fits .0) u))
   walk-low {box} (divides {inner = inner} {i = i} m u at q f o) fits a p s d =
       let least : PlanIn fields (firstHalf i inner) (smallestOf inner) = (smallest-in-first inner i (m .rooms) (q .there), least-meets m fits) in
       let low = walk-low f (same-length SpecialFits (firstHalf i inner) box (first-smaller m q .inside) fits) (smallestOf inner) least (s + 1) d in
@@ -124,6 +123,6 @@ module _ (fields : List Field) where
   pub special-plan : (box inner : List ℕ) → Rooms box → SpecialFits (length box) → shrunk fields box ≡ alive inner → FoundLow fields box 0 0 (explored fields box)
   special-plan box inner rooms fits e =
       let m = shrinks fields box inner rooms e in
-      let t = tree fields box rooms in
+      let t = tree fields box rooms (fits .0) in
       let least = shrunk-plans fields m (fits .0) (smallestOf inner) .0 (smallest-in-box inner (m .rooms), least-meets m fits) in
       rw (explored-walks t) (walk-low t fits (smallestOf inner) least 0 0)

@@ -1,20 +1,19 @@
 -- The tree of a search: what it meets in a box, and in both halves wherever it splits, to the end of each (`tree`). Assumes nothing.
-use mathlib.Core.Path.{_≡_, refl, sym, subst}
+use mathlib.Core.Path.{_≡_, refl}
 use mathlib.Core.Bool.{Bool, true, false}
 use mathlib.Core.List.{List}
-use Prim.Native.Nat.{ℕ, zero, suc, _≤_, _<_}
+use Prim.Native.Nat.{ℕ, zero, suc, _<_}
 use native.Mathlib.Omega.{arith}
-use lib.Dec.{leb}
-use lib.ListN.{length}
-use borrow.Author.Tests.{leb-true, leb-false}
 use Rattle.rules.specs.Rules.{Field}
 use Rattle.steps.specs.Boxes.{openValues, BoxInside, Rooms, firstHalf, otherHalf}
 use Rattle.steps.specs.Shrinking.{Look, dead, alive, round, shrunk, settled}
 use Rattle.steps.specs.Search.{chosen}
-use Rattle.steps.proofs.Boxes.BoxLaws.{box-inside-length, box-inside-trans}
+use Rattle.steps.proofs.Boxes.BoxLaws.{box-inside-trans}
 use Rattle.steps.proofs.Boxes.BoxSizes.{open-inside}
 use Rattle.steps.proofs.Boxes.BoxSizes.{first-half-rooms, other-half-rooms, first-half-inside, other-half-inside, first-half-falls, other-half-falls}
 use Rattle.steps.proofs.Looks.ShrinkLaws.{shrunk-inside, shrunk-fixed}
+use Rattle.steps.proofs.Looks.FittingRules.{FitsBox, fits-inside}
+use Rattle.steps.proofs.Search.AlwaysSplits.{split-there}
 use Rattle.steps.proofs.Search.Chosen.{SplitAt, chosen-splits}
 
 -- ---- smaller boxes
@@ -60,40 +59,39 @@ module _ {fields : List Field} {box inner : List ℕ} {i : ℕ} (s : Shrinks fie
       smaller (otherHalf i inner) (other-half-inside inner i (s .rooms) (p .there) (p .two)) (other-half-rooms inner i (s .rooms) (p .there) (p .two))
       (other-half-falls inner i (s .rooms) (p .there) (p .two))
 
--- what holds of a box by its length holds of those inside
-pub same-length : (P : ℕ → Type 0) (b c : List ℕ) → BoxInside b c → P (length c) → P (length b)
-same-length P b c i = subst P (sym (box-inside-length b c i))
-
 -- ---- the tree
 
--- a box is dead; or it shrinks to a box that is settled, or that is not and has no room to split, or that is not and is split at an index
+-- a box is dead; or it shrinks to a box that is settled, or that is not and is split at an index
 pub data Tree (fields : List Field) : List ℕ → Type 0 where
   dies : {box : List ℕ} (place : ℕ) → Rooms box → shrunk fields box ≡ dead place → Tree fields box
   settles : {box inner : List ℕ} → Shrinks fields box inner → settled fields inner ≡ true → Tree fields box
-  stalls : {box inner : List ℕ} → Shrinks fields box inner → settled fields inner ≡ false → length inner ≤ chosen fields inner → Tree fields box
   divides : {box inner : List ℕ} {i : ℕ} → Shrinks fields box inner → settled fields inner ≡ false → chosen fields inner ≡ i → SplitAt fields inner i
       → Tree fields (firstHalf i inner) → Tree fields (otherHalf i inner) → Tree fields box
 
 module _ (fields : List Field) where
-  -- the number of open values falls from a box to its halves
-  grown : (k : ℕ) (box : List ℕ) → Rooms box → openValues box < k → Tree fields box
-  grown zero box rooms h = absurd (omega arith)
-  grown (suc k) box rooms h = look (grown k) (shrunk fields box) refl
+  -- the number of open values falls from a box to its halves, and a box that is neither dead nor settled has a position to split
+  grown : (k : ℕ) (box : List ℕ) → Rooms box → FitsBox fields box → openValues box < k → Tree fields box
+  grown zero box rooms fits h = absurd (omega arith)
+  grown (suc k) box rooms fits h = look (grown k) (shrunk fields box) refl
     where
-      test : ((b : List ℕ) → Rooms b → openValues b < k → Tree fields b) → {inner : List ℕ} → Shrinks fields box inner
-          → (t u : Bool) → settled fields inner ≡ t → leb (length inner) (chosen fields inner) ≡ u → Tree fields box
-      test rest s true u e l = settles s e
-      test rest {inner} s false true e l = stalls s e (leb-true (length inner) (chosen fields inner) l)
-      test rest {inner} s false false e l =
-          let p = chosen-splits fields inner (s .rooms) (leb-false (length inner) (chosen fields inner) l) in
+      Rest : Type 0
+      Rest = (b : List ℕ) → Rooms b → FitsBox fields b → openValues b < k → Tree fields b
+
+      test : Rest → {inner : List ℕ} → Shrinks fields box inner → (t : Bool) → settled fields inner ≡ t → Tree fields box
+      test rest s true e = settles s e
+      test rest {inner} s false e =
+          let p = chosen-splits fields inner (s .rooms) (split-there fields box inner rooms fits (s .shrank) e) in
+          let first = firstHalf (chosen fields inner) inner in
+          let other = otherHalf (chosen fields inner) inner in
           let f = first-smaller s p in
           let o = other-smaller s p in
-          divides s e refl p (rest (firstHalf (chosen fields inner) inner) (f .rooms) (omega arith)) (rest (otherHalf (chosen fields inner) inner) (o .rooms) (omega arith))
+          divides s e refl p (rest first (f .rooms) (fits-inside fields first box (f .inside) fits) (omega arith))
+          (rest other (o .rooms) (fits-inside fields other box (o .inside) fits) (omega arith))
 
-      look : ((b : List ℕ) → Rooms b → openValues b < k → Tree fields b) → (l : Look) → shrunk fields box ≡ l → Tree fields box
+      look : Rest → (l : Look) → shrunk fields box ≡ l → Tree fields box
       look rest (dead place) e = dies place rooms e
-      look rest (alive inner) e = test rest (shrinks fields box inner rooms e) (settled fields inner) (leb (length inner) (chosen fields inner)) refl refl
+      look rest (alive inner) e = test rest (shrinks fields box inner rooms e) (settled fields inner) refl
 
-  -- every box of rooms has a tree
-  pub tree : (box : List ℕ) → Rooms box → Tree fields box
-  tree box rooms = grown (suc (openValues box)) box rooms (omega arith)
+  -- every box of rooms that the rules fit has a tree
+  pub tree : (box : List ℕ) → Rooms box → FitsBox fields box → Tree fields box
+  tree box rooms fits = grown (suc (openValues box)) box rooms fits (omega arith)

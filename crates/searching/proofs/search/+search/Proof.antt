@@ -10,8 +10,6 @@ use borrow.Fn.PlainCycle.{Measures, is, falls, and}
 use borrow.Kind.Array.{eInt, good-length}
 use mir.Syntax.{w32}
 use Rattle.rules.specs.Sound.{fieldsIn}
-use Rattle.lists.specs.Lists.{Every}
-use Rattle.rules.proofs.Reading.ByteLaws.{bytes-each}
 use Rattle.rules.proofs.Reading.WalkLaws.{sound-limits}
 use Rattle.steps.specs.Boxes.{openValues}
 use Rattle.steps.proofs.Boxes.BoxLaws.{box-inside-refl}
@@ -96,10 +94,6 @@ positions c = sound-limits (c .args .input .now) (c .args .v) (c .pre .1 .0) .1
 rooms-long : {t : ℕ} (c : Start t) → length (c .args .rooms) ≡ 64
 rooms-long c = good-length (eInt w32) 64 (c .args .rooms) _ (c .good .1 .1 .1 .0)
 
--- every byte of the input is one
-bytes : {t : ℕ} (c : Shrunk t) → Every (λ b. b < 256) (start c .args .input .now)
-bytes c = bytes-each (start c .args .input .now) (λ i. c .before .before .shared-slice-known .given i .fits)
-
 -- what the call is given
 abbrev given : {t : ℕ} → Shrunk t → Given
 given c = let a = start c .args in record {
@@ -113,7 +107,7 @@ given c = let a = start c .args in record {
   small = positions (start c);
   long = rooms-long (start c);
   full = start c .pre .1 .1;
-  fits = sound-fits (a .input .now) (a .v) (bytes c) (start c .pre .1 .0);
+  fits = sound-fits (a .input .now) (a .v) (start c .pre .1 .0);
 }
 
 -- a box that lives: what was saved of it

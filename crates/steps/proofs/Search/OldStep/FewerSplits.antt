@@ -3,12 +3,11 @@ use mathlib.Core.Path.{_≡_, refl, sym, ap, _∙_, subst}
 use mathlib.Core.Logic.{_⊎_, inl, inr}
 use mathlib.Core.List.{List}
 use Prim.Native.Nat.{ℕ, zero, suc, _+_, _-_, _≤_, _<_}
-use native.Mathlib.Decide.{ℕ-discrete, decLt}
+use native.Mathlib.Decide.{ℕ-discrete}
 use native.Mathlib.Omega.{arith}
 use lib.ListN.{length, getD, set}
 use lib.Seq.{getD-set-same, getD-set-other}
-use borrow.Author.Tests.{lt-leb}
-use Rattle.lists.proofs.LowestLaws.{lowest-passes, lowest-before}
+use Rattle.lists.proofs.LowestLaws.{lowest-passes, lowest-at-most}
 use Rattle.lists.proofs.TestLaws.{le-holds}
 use Rattle.sets.specs.Sets.{single, count, smallest, others}
 use Rattle.sets.proofs.Smallest.{smallest-range, smallest-of-single}
@@ -17,21 +16,22 @@ use Rattle.rules.specs.Writing.{fieldsOf, Within}
 use Rattle.steps.specs.Boxes.{roomAt, BoxInside, openValues, Rooms, wide, firstHalf, otherHalf}
 use Rattle.steps.specs.Shrinking.{alive, round}
 use Rattle.steps.specs.Reply.{Reply}
-use Rattle.steps.specs.Search.{chosen, ifNone, explored}
+use Rattle.steps.specs.Search.{chosen, ifNone, never, explored}
 use Rattle.steps.specs.OldStep.{lowestWide, exploreWide, exploredWide}
 use Rattle.steps.specs.Table.{startOf, needed}
 use Rattle.steps.proofs.Boxes.BoxLaws.{box-inside-refl, box-inside-antisymmetric, rooms-at}
 use Rattle.steps.proofs.Boxes.BoxSizes.{open-inside}
 use Rattle.steps.proofs.Boxes.BoxSizes.{first-half-rooms, other-half-rooms, first-half-inside, other-half-inside, first-half-falls, other-half-falls}
+use Rattle.steps.proofs.Looks.FittingRules.{FitsBox, fits-inside}
 use Rattle.steps.proofs.Looks.ShrinkLaws.{LiveInFields, shrunk-inside, fixed-inside-shrunk}
 use Rattle.steps.proofs.Demands.{start}
 use Rattle.steps.proofs.Search.Allowance.{walk-more}
 use Rattle.steps.proofs.Search.Chosen.{chosen-two, chosen-at-most}
 use Rattle.steps.proofs.Search.OldStep.IdleSearch.{SameCounts, SameSmallest, Idle, walks-same}
-use Rattle.steps.proofs.Search.Says.{FitsBox, fits-inside, inner-fits, splits-somewhere}
+use Rattle.steps.proofs.Search.Says.{inner-fits}
 use Rattle.steps.proofs.Search.Split.{none-later, other-stays, after-none}
-use Rattle.steps.proofs.Search.Tree.{Shrinks, shrinks, Tree, dies, settles, stalls, divides, first-smaller, other-smaller, tree}
-use Rattle.steps.proofs.Search.Walk.{walk, never, explored-walks}
+use Rattle.steps.proofs.Search.Tree.{Shrinks, shrinks, Tree, dies, settles, divides, first-smaller, other-smaller, tree}
+use Rattle.steps.proofs.Search.Walk.{walk, explored-walks}
 
 -- ---- the old index
 
@@ -43,11 +43,7 @@ wide-two box l = le-holds 2 (count (getD box (lowestWide box) 0)) .0 (lowest-pas
 -- no room before it has
 wide-lowest : (box : List ℕ) (i : ℕ) → 2 ≤ count (getD box i 0) → lowestWide box ≤ i
 unfolding lowestWide
-wide-lowest box i two = go (decLt i (lowestWide box))
-  where
-    go : Dec (i < lowestWide box) → lowestWide box ≤ i
-    go (yes l) = absurd (lowest-before (wide box) (length box) i l (le-holds 2 (count (getD box i 0)) .1 two))
-    go (no g) = omega arith
+wide-lowest box i two = lowest-at-most (wide box) (length box) i (le-holds 2 (count (getD box i 0)) .1 two)
 
 -- ---- the first half
 
@@ -118,7 +114,8 @@ split-no-more first begun later on f o = go (ℕ-discrete (first .number) 1)
         rw (none-later first later e, none-later begun on (sym (f .number) ∙ e)) (o (first .splits) (first .deadEnds) (begun .splits) (begun .deadEnds) (f .splits))
     go (no ne) = rw (other-stays first later ne, other-stays begun on (λ e. ne (f .number ∙ e))) f
 
-module _ (fields : List Field) where
+-- whatever the old search answers any deeper
+module _ (deeper : List ℕ → ℕ → ℕ → Reply) (fields : List Field) where
   -- a box in which nothing is left to cut shrinks to itself
   shrinks-to-itself : (box : List ℕ) → Rooms box → round fields box ≡ alive box → Shrinks fields box box
   shrinks-to-itself box rooms fixed =
@@ -129,25 +126,25 @@ module _ (fields : List Field) where
   -- the search of a box, from any counts, against the old one from no smaller count of splits, which may go k deep
   abbrev Against : ℕ → Type 0
   Against k = (box : List ℕ) (t : Tree fields box) → FitsBox fields box → openValues box < k → (s d s′ d′ : ℕ) → s ≤ s′
-      → NoMore (walk t never s d) (exploreWide k fields box s′ d′)
+      → NoMore (walk t never s d) (exploreWide deeper k fields box s′ d′)
 
   -- where the old search splits at an idle index, the search of the whole box takes as many splits as that of either half
   idle-no-more : (k : ℕ) → Against k → (box : List ℕ) (t : Tree fields box) → Rooms box → FitsBox fields box → openValues box < suc k
       → (i : ℕ) → i < length box → 2 ≤ count (getD box i 0) → IdleIndex fields box i → (s d s′ d′ : ℕ) → s ≤ s′
-      → NoMore (walk t never s d) (ifNone (exploreWide k fields (firstHalf i box) (s′ + 1) d′) (exploreWide k fields (otherHalf i box)))
+      → NoMore (walk t never s d) (ifNone (exploreWide deeper k fields (firstHalf i box) (s′ + 1) d′) (exploreWide deeper k fields (otherHalf i box)))
   idle-no-more k rest box t rooms fits less i there two idle s d s′ d′ h =
       let first = firstHalf i box in
       let other = otherHalf i box in
-      let f = tree fields first (first-half-rooms box i rooms there two) in
-      let o = tree fields other (other-half-rooms box i rooms there two) in
       let fit = fits-inside fields first box (first-half-inside box i rooms there two) fits in
       let fit′ = fits-inside fields other box (other-half-inside box i rooms there two) fits in
+      let f = tree fields first (first-half-rooms box i rooms there two) fit in
+      let o = tree fields other (other-half-rooms box i rooms there two) fit′ in
       let asFirst = walks-same fields t f fits (first-half-idle fields box i idle rooms there two) s d in
       let asOther = walks-same fields t o fits (other-half-idle fields box i idle rooms there two) s d in
-      let begun = exploreWide k fields first (s′ + 1) d′ in
+      let begun = exploreWide deeper k fields first (s′ + 1) d′ in
       let m = rest first f fit (omega (arith, first-half-falls box i rooms there two)) s d (s′ + 1) d′ (omega arith) in
       let so-far : s ≤ begun .splits = omega (arith, walk-more f s d, m .splits) in
-      after-none begun (exploreWide k fields other) (NoMore (walk t never s d))
+      after-none begun (exploreWide deeper k fields other) (NoMore (walk t never s d))
       (λ e. no-more-from asOther (inl (asFirst .number ∙ m .number ∙ e))
       (rest other o fit′ (omega (arith, other-half-falls box i rooms there two)) s d (begun .splits) (begun .deadEnds) so-far))
       (λ ne. no-more-from asFirst (inr (first-half-smallest box i rooms there)) m)
@@ -158,21 +155,20 @@ module _ (fields : List Field) where
   walk-no-more zero box t fits less s d s′ d′ h = absurd (omega arith)
   walk-no-more (suc k) box (dies place rooms e) fits less s d s′ d′ h = rw e (record { number = refl; values = refl; splits = h })
   walk-no-more (suc k) box (settles m t) fits less s d s′ d′ h = rw (m .shrank, t) (record { number = refl; values = refl; splits = h })
-  walk-no-more (suc k) box (stalls m u l) fits less s d s′ d′ h = absurd (omega (arith, splits-somewhere fields m fits u))
   walk-no-more (suc k) box (divides {inner = inner} {i = i} m u at p f o) fits less s d s′ d′ h =
-      rw (m .shrank, u, lt-leb (length inner) (lowestWide inner) there) (go (walk-no-more k) (ℕ-discrete (lowestWide inner) i))
+      rw (m .shrank, u) (go (walk-no-more k) (ℕ-discrete (lowestWide inner) i))
     where
       there : lowestWide inner < length inner
       there = omega (arith, wide-lowest inner i (p .two), p .there)
 
       go : Against k → Dec (lowestWide inner ≡ i)
           → NoMore (ifNone (walk f never (s + 1) d) (walk o never))
-          (ifNone (exploreWide k fields (firstHalf (lowestWide inner) inner) (s′ + 1) d′) (exploreWide k fields (otherHalf (lowestWide inner) inner)))
+          (ifNone (exploreWide deeper k fields (firstHalf (lowestWide inner) inner) (s′ + 1) d′) (exploreWide deeper k fields (otherHalf (lowestWide inner) inner)))
       go rest (yes e) =
           let first = first-smaller m p in
           let other = other-smaller m p in
           rw e
-          (split-no-more (walk f never (s + 1) d) (exploreWide k fields (firstHalf i inner) (s′ + 1) d′) (walk o never) (exploreWide k fields (otherHalf i inner))
+          (split-no-more (walk f never (s + 1) d) (exploreWide deeper k fields (firstHalf i inner) (s′ + 1) d′) (walk o never) (exploreWide deeper k fields (otherHalf i inner))
           (rest (firstHalf i inner) f (fits-inside fields (firstHalf i inner) box (first .inside) fits) (omega (arith, first .falls)) (s + 1) d (s′ + 1) d′ (omega arith))
           (rest (otherHalf i inner) o (fits-inside fields (otherHalf i inner) box (other .inside) fits) (omega (arith, other .falls))))
       go rest (no apart) =
@@ -180,21 +176,21 @@ module _ (fields : List Field) where
           (omega (arith, open-inside inner box (m .rooms) (m .before) (m .inside))) (lowestWide inner) there (wide-two inner there)
           (wide-idle fields inner (omega (arith, at, p .there)) (λ e. apart (e ∙ at))) s d s′ d′ h
 
-module _ (fields : List Field) (box : List ℕ) (rooms : Rooms box) (fits : FitsBox fields box) where
+module _ (deeper : List ℕ → ℕ → ℕ → Reply) (fields : List Field) (box : List ℕ) (rooms : Rooms box) (fits : FitsBox fields box) where
   -- the search of a box against the old one
-  no-more : NoMore (explored fields box) (exploredWide fields box)
+  no-more : NoMore (explored fields box) (exploredWide deeper fields box)
   unfolding exploredWide
-  no-more = let t = tree fields box rooms in rw (explored-walks t) (walk-no-more fields (suc (openValues box)) box t fits (omega arith) 0 0 0 0 (omega arith))
+  no-more = let t = tree fields box rooms fits in rw (explored-walks t) (walk-no-more deeper fields (suc (openValues box)) box t fits (omega arith) 0 0 0 0 (omega arith))
 
   -- it never needs more splits
-  pub fewer-splits : explored fields box .splits ≤ exploredWide fields box .splits
+  pub fewer-splits : explored fields box .splits ≤ exploredWide deeper fields box .splits
   fewer-splits = no-more .splits
 
   -- and gives the same number and values
-  pub same-answer : (explored fields box .number ≡ exploredWide fields box .number) × (explored fields box .values ≡ exploredWide fields box .values)
+  pub same-answer : (explored fields box .number ≡ exploredWide deeper fields box .number) × (explored fields box .values ≡ exploredWide deeper fields box .values)
   same-answer = (no-more .number, no-more .values)
 
 -- so no file within 01's limits needs more splits than it did
-pub needed-no-more : (file : File) → Within file → needed file ≤ exploredWide (fieldsOf file) (startOf file) .splits
+pub needed-no-more : (deeper : List ℕ → ℕ → ℕ → Reply) (file : File) → Within file → needed file ≤ exploredWide deeper (fieldsOf file) (startOf file) .splits
 unfolding needed
-needed-no-more file within = fewer-splits (fieldsOf file) (startOf file) (start file within .rooms) (start file within .fits)
+needed-no-more deeper file within = fewer-splits deeper (fieldsOf file) (startOf file) (start file within .rooms) (start file within .fits)

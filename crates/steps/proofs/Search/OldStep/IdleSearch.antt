@@ -7,7 +7,6 @@ use native.Mathlib.Decide.{ℕ-discrete}
 use native.Mathlib.Omega.{arith}
 use lib.Dec.{T}
 use lib.ListN.{length, getD}
-use borrow.Author.Tests.{lt-leb}
 use Rattle.lists.specs.Lowest.{lowest}
 use Rattle.lists.proofs.LowestLaws.{lowest-passes, lowest-same}
 use Rattle.sets.specs.Sets.{single, count, smallest, others}
@@ -15,19 +14,20 @@ use Rattle.rules.specs.Rules.{Field}
 use Rattle.steps.specs.Boxes.{roomAt, openValues, smallestOf, firstHalf, otherHalf}
 use Rattle.steps.specs.Shrinking.{shrunk, dead, liveInFields}
 use Rattle.steps.specs.Reply.{Reply}
-use Rattle.steps.specs.Search.{splittable, chosen, ifNone, explore}
+use Rattle.steps.specs.Search.{splittable, chosen, ifNone, search, nowhere, never}
 use Rattle.steps.proofs.Boxes.BoxLaws.{box-inside-length}
 use Rattle.steps.proofs.Boxes.BoxSizes.{first-half-rooms, other-half-rooms, first-half-inside, other-half-inside}
 use Rattle.steps.proofs.Looks.InTurn.{dead-not-alive}
+use Rattle.steps.proofs.Looks.FittingRules.{FitsBox, fits-inside}
 use Rattle.steps.proofs.Looks.LiveTests.{live-in-fields}
 use Rattle.steps.proofs.Looks.ShrinkLaws.{LiveInFields}
 use Rattle.steps.proofs.Looks.Idle.ButForIdle.{ButForIdle, SameWay, SameLooks, both-dead, both-alive, same-step-keeps, same-way-set, still-but-for-idle}
 use Rattle.steps.proofs.Looks.Idle.Shrinking.{fields-stay-idle, fields-stay-live, settled-same, shrunk-looks-same}
 use Rattle.steps.proofs.Search.Split.{none-later, other-stays}
 use Rattle.steps.proofs.Search.Chosen.{SplitAt, may-split, chosen-splits}
-use Rattle.steps.proofs.Search.Tree.{Shrinks, shrinks, Tree, dies, settles, stalls, divides, first-smaller, other-smaller}
-use Rattle.steps.proofs.Search.Walk.{walk, never, explore-walks}
-use Rattle.steps.proofs.Search.Says.{FitsBox, fits-inside, inner-fits, splits-somewhere}
+use Rattle.steps.proofs.Search.Tree.{Shrinks, shrinks, Tree, dies, settles, divides, first-smaller, other-smaller}
+use Rattle.steps.proofs.Search.Walk.{walk, search-walks}
+use Rattle.steps.proofs.Search.Says.{inner-fits}
 
 -- ---- replies with the same counts
 
@@ -173,13 +173,13 @@ module _ (fields : List Field) where
 
   -- ---- the search
 
-  explore-same : (k : ℕ) {b : List ℕ} (t : Tree fields b) (c : List ℕ) → FitsBox fields b → Idle b c → openValues c < k
-      → (s d : ℕ) → SameCounts (SameSmallest b c) (walk t never s d) (explore k fields c s d)
-  unfolding explore
-  explore-same zero t c fits h less s d = absurd (omega arith)
-  explore-same (suc k) {b} (dies place rooms e) c fits h less s d =
+  search-same : (k : ℕ) {b : List ℕ} (t : Tree fields b) (c : List ℕ) → FitsBox fields b → Idle b c → openValues c < k
+      → (s d : ℕ) → SameCounts (SameSmallest b c) (walk t never s d) (search nowhere k fields never c s d)
+  unfolding search
+  search-same zero t c fits h less s d = absurd (omega arith)
+  search-same (suc k) {b} (dies place rooms e) c fits h less s d =
       rw (dies-same b c place e fits h) (record { number = refl; splits = refl; deadEnds = refl; values = λ any. refl })
-  explore-same (suc k) {b} (settles {inner = inner} m t) c fits h less s d =
+  search-same (suc k) {b} (settles {inner = inner} m t) c fits h less s d =
       let found = shrinks-same m c fits h in
       let after = found .0 in
       let g = found .2 in
@@ -187,8 +187,7 @@ module _ (fields : List Field) where
       let same : SameSmallest b c → smallestOf inner ≡ smallestOf after = λ low. smallest-same inner after long (smallest-kept b c inner after (found .3) low) in
       rw (found .1 .shrank, sym (settled-same fields inner after (inner-fits fields m fits) g) ∙ t)
       (record { number = refl; splits = refl; deadEnds = refl; values = ⊎-elim (λ none. absurd (omega (arith, none))) same })
-  explore-same (suc k) (stalls m u l) c fits h less s d = absurd (omega (arith, splits-somewhere fields m fits u))
-  explore-same (suc k) {b} (divides {inner = inner} {i = i} m u at p f o) c fits h less s d =
+  search-same (suc k) {b} (divides {inner = inner} {i = i} m u at p f o) c fits h less s d =
       let found = shrinks-same m c fits h in
       let after = found .0 in
       let n = found .1 in
@@ -201,15 +200,15 @@ module _ (fields : List Field) where
       let low = smallest-kept b c inner after (found .3) in
       let first = first-smaller n q in
       let other = other-smaller n q in
-      rw (n .shrank, sym (settled-same fields inner after fit g) ∙ u, here, lt-leb (length after) i (q .there))
+      rw (n .shrank, sym (settled-same fields inner after fit g) ∙ u, here)
       (split-same
       (λ same. smallest-kept inner after (firstHalf i inner) (firstHalf i after) (first-way g p q room) (low same))
       (λ same. smallest-kept inner after (otherHalf i inner) (otherHalf i after) (other-way g p q room) (low same))
-      (walk f never (s + 1) d) (explore k fields (firstHalf i after) (s + 1) d) (walk o never) (explore k fields (otherHalf i after))
-      (explore-same k f (firstHalf i after) (fits-inside fields (firstHalf i inner) b (first-smaller m p .inside) fits) (first-idle g p q room) (omega arith) (s + 1) d)
-      (explore-same k o (otherHalf i after) (fits-inside fields (otherHalf i inner) b (other-smaller m p .inside) fits) (other-idle g p q room) (omega arith)))
+      (walk f never (s + 1) d) (search nowhere k fields never (firstHalf i after) (s + 1) d) (walk o never) (search nowhere k fields never (otherHalf i after))
+      (search-same k f (firstHalf i after) (fits-inside fields (firstHalf i inner) b (first-smaller m p .inside) fits) (first-idle g p q room) (omega arith) (s + 1) d)
+      (search-same k o (otherHalf i after) (fits-inside fields (otherHalf i inner) b (other-smaller m p .inside) fits) (other-idle g p q room) (omega arith)))
 
   -- the searches of two boxes that differ at idle positions alone have the same counts
   pub walks-same : {b c : List ℕ} (t : Tree fields b) (u : Tree fields c) → FitsBox fields b → Idle b c → (s d : ℕ)
       → SameCounts (SameSmallest b c) (walk t never s d) (walk u never s d)
-  walks-same {b} {c} t u fits h s d = rw (← explore-walks (suc (openValues c)) u (omega arith) s d) (explore-same (suc (openValues c)) t c fits h (omega arith) s d)
+  walks-same {b} {c} t u fits h s d = rw (← search-walks nowhere (suc (openValues c)) u (omega arith) never s d) (search-same (suc (openValues c)) t c fits h (omega arith) s d)
