@@ -80,9 +80,13 @@ header-number bytes = search numbers depth 8
 
 -- ---- readings
 
+-- no rule has a fault
+abbrev pub Faultless : ℕ → ℕ → List Rule → Type 0
+Faultless v n rules = Every (λ rule. ruleFault v n rule ≡ 0) rules
+
 -- a file with these v and n and no rule with a fault, or a refusal with one of these numbers at a place up to the end
 abbrev Fine : ℕ → ℕ → ℕ → Reading → Type 0
-Fine v n end (sound file) = (file .v ≡ v) × (file .n ≡ n) × Every (λ rule. ruleFault v n rule ≡ 0) (file .rules)
+Fine v n end (sound file) = (file .v ≡ v) × (file .n ≡ n) × Faultless v n (file .rules)
 Fine v n end (refused number place) = Refusing number × (place ≤ end)
 
 module _ (v n end : ℕ) where
@@ -131,5 +135,5 @@ module _ (s : List ℕ) (file : File) (read : reading s ≡ sound file) where
   read-limits = (file-fine .0, file-fine .1)
 
   -- and none of its rules has a fault
-  pub read-faultless : Every (λ rule. ruleFault (file .v) (file .n) rule ≡ 0) (file .rules)
-  read-faultless = subst₂ (λ (v n : ℕ). Every (λ rule. ruleFault v n rule ≡ 0) (file .rules)) (sym (read-limits .0)) (sym (read-limits .1)) (file-fine .2)
+  pub read-faultless : Faultless (file .v) (file .n) (file .rules)
+  read-faultless = subst₂ (λ (v n : ℕ). Faultless v n (file .rules)) (sym (read-limits .0)) (sym (read-limits .1)) (file-fine .2)

@@ -46,8 +46,8 @@ rule-fits v n (clause atoms) = simp (tests, atoms-fault-none, atoms-length) (λ 
 rule-fits v n (equality m ps) = simp (tests, set-fault-none, positions-fault-none) (λ h. (omega arith, omega arith, (h .1, h .2)), λ h. (omega arith, h .2 .0, h .2 .1))
 
 -- so a rule within the limits has no fault
-pub rule-faultless : (v n : ℕ) (r : Rule) → RuleFits v n r → ruleFault v n r ≡ 0
-rule-faultless v n r fits = rule-fits v n r .0 fits .2
+pub fits-faultless : (v n : ℕ) (r : Rule) → RuleFits v n r → ruleFault v n r ≡ 0
+fits-faultless v n r fits = rule-fits v n r .0 fits .2
 
 -- ---- a content that was written is read back
 

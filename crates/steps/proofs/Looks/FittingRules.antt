@@ -15,9 +15,9 @@ use Rattle.rules.specs.Writing.{fieldsOf, PositionFits, SetFits, RuleFits, With
 use Rattle.lists.proofs.ListLaws.{every-of-listed, every-over-append, every-over-map, every-map}
 use Rattle.rules.proofs.EqualityMeaning.{MaskFits}
 use Rattle.rules.proofs.Writing.PlaceLaws.{every-field}
-use Rattle.rules.proofs.Writing.WrittenLaws.{rule-faultless}
+use Rattle.rules.proofs.Writing.WrittenLaws.{fits-faultless}
 use Rattle.rules.proofs.Reading.FaultlessLaws.{or-else-none, set-fault-none, atoms-fault-none, positions-fault-none}
-use Rattle.rules.proofs.Reading.RefusalLaws.{read-faultless}
+use Rattle.rules.proofs.Reading.RefusalLaws.{Faultless, read-faultless}
 use Rattle.steps.specs.Boxes.{BoxInside}
 use Rattle.steps.proofs.Boxes.BoxLaws.{same-length}
 use Rattle.steps.proofs.Looks.ClauseLaws.{ClauseFits}
@@ -85,13 +85,14 @@ abbrev pub FieldsFit : ℕ → List Field → Type 0
 FieldsFit v fields = Every (λ f. Fits v (f .rule)) fields
 
 -- so it is with the fields of a file whose rules have no fault
-faultless-fit : (file : File) → Every (λ rule. ruleFault (file .v) (file .n) rule ≡ 0) (file .rules) → FieldsFit (file .v) (fieldsOf file)
+faultless-fit : (file : File) → Faultless (file .v) (file .n) (file .rules) → FieldsFit (file .v) (fieldsOf file)
 faultless-fit file none =
     every-field (Fits (file .v)) file .0 (every-map (λ rule. ruleFault (file .v) (file .n) rule ≡ 0) (Fits (file .v)) (file .rules) (rule-fits (file .v) (file .n)) none)
 
 -- as those of a file within 01's limits have none
 pub fields-fit : (file : File) → Within file → FieldsFit (file .v) (fieldsOf file)
-fields-fit file within = faultless-fit file (every-map (RuleFits (file .v) (file .n)) (λ rule. ruleFault (file .v) (file .n) rule ≡ 0) (file .rules) (λ rule. rule-faultless (file .v) (file .n) rule) (within .rules))
+fields-fit file within =
+    faultless-fit file (every-map (RuleFits (file .v) (file .n)) (λ rule. ruleFault (file .v) (file .n) rule ≡ 0) (file .rules) (fits-faultless (file .v) (file .n)) (within .rules))
 
 -- nor those of a file that was read
 pub read-fits : (s : List ℕ) (file : File) → reading s ≡ sound file → FieldsFit (file .v) (fieldsOf file)
@@ -102,8 +103,9 @@ pub sound-fits : (s : List ℕ) (v : ℕ) → SoundInput s v → FieldsFit v (fi
 unfolding fieldsIn
 sound-fits s v input = subst (λ (k : ℕ). FieldsFit k (fieldsOf (fileOf (reading s)))) (input .positions) (read-fits s (fileOf (reading s)) (input .read))
 
--- ---- the rules fit the positions of a box
+-- ---- rules and boxes
 
+-- the rules fit the positions of the box
 abbrev pub FitsBox : List Field → List ℕ → Type 0
 FitsBox fields box = FieldsFit (length box) fields
 

@@ -1,6 +1,6 @@
 -- Request R-8 of document 02: an unsettled box which is not dead, once shrinking is over, always has a position that step 4 can split (`always-splits`). So the
--- search has no answer for a box where it finds none. The theorem rests on two laws of a part, *inside* and *steady* of SixLaws.antt, which InTurn.antt lifts
--- to rules and to files: a new kind of part that keeps them has it as it stands. Assumes nothing.
+-- search has no answer for a box where it finds none. The theorem rests on two laws of a part, *inside* and *steady* (`part-inside`, `part-steady`), which
+-- `in-turn-inward` and `in-turn-steady` lift to rules and to files: a new kind of part that keeps them has it as it stands. Assumes nothing.
 use mathlib.Core.Path.{_≡_, refl}
 use mathlib.Core.Logic.{_↔_}
 use mathlib.Core.Bool.{Bool, true, false}
