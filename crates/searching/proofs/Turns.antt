@@ -94,6 +94,7 @@ module _ (given : Given) where
   box-length : length box ≡ v
   box-length = length-take-le v (given .rooms) (omega (arith, given .small, given .long))
 
+  -- the rules fit it
   box-fits : FitsBox fields box
   box-fits = subst (λ (k : ℕ). FieldsFit k fields) (sym box-length) (given .fits)
 

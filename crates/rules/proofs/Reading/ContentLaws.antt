@@ -10,12 +10,12 @@ use lib.Seq.{drop-cons, drop-drop}
 use Rattle.rules.specs.declared.field.Atom.{Atom}
 use Rattle.rules.specs.declared.field.Tag.{Tag}
 use Rattle.rules.specs.declared.field.Tag.the-variants.{Header, Clause, Equality, Unknown}
-use Rattle.rules.specs.Reading.{atomOf, atomsOf, setAt, ruleOf, lengthFits, tagFault, setFault, ruleFault}
+use Rattle.rules.specs.Reading.{atomOf, atomsOf, ruleOf, lengthFits, tagFault, ruleFault}
 use Rattle.rules.specs.Writing.{PositionFits, SetFits}
 use Rattle.rules.specs.Contents.{ContentFits}
 use Rattle.lists.proofs.ListLaws.{every-map}
 use Rattle.lists.proofs.TestLaws.{both-hold, le-holds, eq-holds}
-use Rattle.rules.proofs.Reading.FaultlessLaws.{or-else-none, atoms-fault-none, positions-fault-none}
+use Rattle.rules.proofs.Reading.FaultlessLaws.{clause-fault-none, equality-fault-none}
 
 -- a clause's length is 5 for each atom
 pub clause-length : (len : ℕ) → T (lengthFits Clause len) → len / 5 * 5 ≡ len
@@ -30,7 +30,7 @@ equality-length len t = le-holds 4 len .0 (both-hold (leb 4 len) (leb len 68) .0
 -- what the tests of a content say, by its kind
 pub content-fits : (v n : ℕ) (kind : Tag) (len : ℕ) (content : List ℕ) → v ≤ 64 → tagFault kind ≡ 0 → T (lengthFits kind len)
     → len ≤ length content → ruleFault v n (ruleOf kind len content) ≡ 0 → ContentFits kind v len content
-unfolding tagFault ruleOf ruleFault
+unfolding tagFault ruleOf
 content-fits v n Header len content few f t there none = absurd (omega arith)
 content-fits v n Clause len content few f t there none =
     let atoms = atomsOf (len / 5) content in
@@ -38,12 +38,11 @@ content-fits v n Clause len content few f t there none =
       whole = clause-length len t;
       there = there;
       few = few;
-      fit = every-map (λ (a : Atom). PositionFits v (a .position) × SetFits n (a .set)) (λ (a : Atom). PositionFits v (a .position)) atoms (λ a h. h .0) (atoms-fault-none v n atoms .0 none);
+      fit = every-map (λ (a : Atom). PositionFits v (a .position) × SetFits n (a .set)) (λ (a : Atom). PositionFits v (a .position)) atoms (λ a h. h .0) (clause-fault-none v n atoms .0 none);
     }
 content-fits v n Equality len content few f t there none =
     let long = equality-length len t in
-    let fit = positions-fault-none v _ .0 (or-else-none (setFault n (setAt content 0)) _ .0 none .1) in
-    (long, record { there = omega (arith, length-drop 4 content); few = few; fit = fit })
+    (long, record { there = omega (arith, length-drop 4 content); few = few; fit = equality-fault-none v n _ _ .0 none .1 })
 content-fits v n Unknown len content few f t there none = absurd (omega arith)
 
 -- the first of some atoms, and the others

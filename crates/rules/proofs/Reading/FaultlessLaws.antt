@@ -9,6 +9,7 @@ use lib.Dec.{T, eqb}
 use lib.ListN.{length, getD}
 use Rattle.rules.specs.declared.field.Atom.{Atom}
 use Rattle.lists.specs.Lists.{Every}
+use Rattle.rules.specs.Rules.{clause, equality}
 use Rattle.rules.specs.Reading.{tagOf, lengthFits, faultIf, orElse, tagFault, bodyFault, headerBodyFault, positionFault, setFault, atomFault, atomsFault, positionsFault, ruleFault, ruleAt, headOf, contentOf, fieldFault, limitsFit, headerFault}
 use Rattle.rules.specs.Writing.{PositionFits, SetFits}
 use Rattle.lists.proofs.TestLaws.{not-not, both-hold, le-holds, lt-fails, eq-holds, eq-fails}
@@ -41,7 +42,7 @@ unfolding positionFault
 position-fault-none v p = simp tests (λ h. h .0, λ h. (h, refl))
 
 -- a set has no fault exactly if it lies within {1..n}
-pub set-fault-none : (n m : ℕ) → (setFault n m ≡ 0) ↔ SetFits n m
+set-fault-none : (n m : ℕ) → (setFault n m ≡ 0) ↔ SetFits n m
 unfolding setFault
 set-fault-none n m = simp tests (λ h. h .0, λ h. (h, refl))
 
@@ -50,14 +51,24 @@ unfolding atomFault
 atom-fault-none v n a = simp (or-else-none, position-fault-none, set-fault-none) Iff·rfl
 
 -- atoms have no fault exactly if each has its position and its set within the limits
-pub atoms-fault-none : (v n : ℕ) (atoms : List Atom) → (atomsFault v n atoms ≡ 0) ↔ Every (λ a. PositionFits v (a .position) × SetFits n (a .set)) atoms
+atoms-fault-none : (v n : ℕ) (atoms : List Atom) → (atomsFault v n atoms ≡ 0) ↔ Every (λ a. PositionFits v (a .position) × SetFits n (a .set)) atoms
 unfolding atomsFault
 atoms-fault-none v n = faults-none (atomFault v n) _ (atomsFault v n) (atom-fault-none v n) refl (λ a more. refl)
 
 -- positions have no fault exactly if each is 1 to v
-pub positions-fault-none : (v : ℕ) (ps : List ℕ) → (positionsFault v ps ≡ 0) ↔ Every (PositionFits v) ps
+positions-fault-none : (v : ℕ) (ps : List ℕ) → (positionsFault v ps ≡ 0) ↔ Every (PositionFits v) ps
 unfolding positionsFault
 positions-fault-none v = faults-none (positionFault v) _ (positionsFault v) (position-fault-none v) refl (λ p more. refl)
+
+-- so a clause has none exactly if that holds of its atoms
+pub clause-fault-none : (v n : ℕ) (atoms : List Atom) → (ruleFault v n (clause atoms) ≡ 0) ↔ Every (λ a. PositionFits v (a .position) × SetFits n (a .set)) atoms
+unfolding ruleFault
+clause-fault-none = atoms-fault-none
+
+-- and an equality exactly if it holds of its set and its positions
+pub equality-fault-none : (v n m : ℕ) (ps : List ℕ) → (ruleFault v n (equality m ps) ≡ 0) ↔ (SetFits n m × Every (PositionFits v) ps)
+unfolding ruleFault
+equality-fault-none v n m ps = simp (or-else-none, set-fault-none, positions-fault-none) Iff·rfl
 
 -- ---- a field and the header
 

@@ -15,7 +15,7 @@ use Rattle.rules.specs.Rules.{Rule, clause, equality}
 use Rattle.rules.specs.Reading.{tagOf, setAt, atomOf, headOf, contentOf, atomsOf, ruleOf, lengthFits, tagFault, ruleFault, ruleAt, fieldFault, sizeOf}
 use Rattle.rules.specs.Writing.{fourBytes, writtenAtoms, tagByte, contentBytes, writtenRule, RuleFits}
 use Rattle.rules.proofs.Reading.ContentLaws.{clause-length, equality-length}
-use Rattle.rules.proofs.Reading.FaultlessLaws.{tests, set-fault-none, atoms-fault-none, positions-fault-none, SoundField, field-fault-none}
+use Rattle.rules.proofs.Reading.FaultlessLaws.{tests, clause-fault-none, equality-fault-none, SoundField, field-fault-none}
 use Rattle.rules.proofs.Writing.FrameLaws.{Byte, bytes-drop, length-below, set-of-written, set-of-read, tag-cases, framed-length, head-of-framed, content-of-framed, framed-of-read}
 
 -- ---- a rule's tag and content
@@ -41,9 +41,9 @@ written-long r = omega (arith, written-length r)
 -- within the limits: the length fits the kind and two bytes, and the content has no fault
 rule-fits : (v n : ℕ) (r : Rule)
     → RuleFits v n r ↔ (T (lengthFits (tagOf (tagByte r)) (length (contentBytes r))) × (length (contentBytes r) < 65536) × (ruleFault v n r ≡ 0))
-unfolding tagOf lengthFits tagByte contentBytes ruleFault fourBytes
-rule-fits v n (clause atoms) = simp (tests, atoms-fault-none, atoms-length) (λ h. (omega arith, h .0, h .1), λ h. (h .1, h .2))
-rule-fits v n (equality m ps) = simp (tests, set-fault-none, positions-fault-none) (λ h. (omega arith, omega arith, (h .1, h .2)), λ h. (omega arith, h .2 .0, h .2 .1))
+unfolding tagOf lengthFits tagByte contentBytes fourBytes
+rule-fits v n (clause atoms) = simp (tests, clause-fault-none, atoms-length) (λ h. (omega arith, h .0, h .1), λ h. (h .1, h .2))
+rule-fits v n (equality m ps) = simp (tests, equality-fault-none) (λ h. (omega arith, omega arith, (h .1, h .2)), λ h. (omega arith, h .2 .0, h .2 .1))
 
 -- so a rule within the limits has no fault
 pub fits-faultless : (v n : ℕ) (r : Rule) → RuleFits v n r → ruleFault v n r ≡ 0

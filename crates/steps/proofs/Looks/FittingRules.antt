@@ -6,17 +6,16 @@ use lib.ListN.{length}
 use Rattle.sets.specs.Sets.{full, single, values}
 use Rattle.sets.proofs.Sameness.{inside-below, full-below, single-below}
 use Rattle.lists.specs.Lists.{Every}
-use Rattle.rules.specs.declared.field.Atom.{Atom}
 use Rattle.rules.specs.Rules.{Rule, clause, equality, Field, File}
 use Rattle.rules.specs.Parts.{oneOf, atomIn, equalityParts, partsOf}
-use Rattle.rules.specs.Reading.{setFault, positionsFault, ruleFault, sound, reading}
+use Rattle.rules.specs.Reading.{ruleFault, sound, reading}
 use Rattle.rules.specs.Sound.{fileOf, fieldsIn, SoundInput}
 use Rattle.rules.specs.Writing.{fieldsOf, PositionFits, SetFits, RuleFits, Within}
 use Rattle.lists.proofs.ListLaws.{every-of-listed, every-over-append, every-over-map, every-map}
 use Rattle.rules.proofs.EqualityMeaning.{MaskFits}
 use Rattle.rules.proofs.Writing.PlaceLaws.{every-field}
 use Rattle.rules.proofs.Writing.WrittenLaws.{fits-faultless}
-use Rattle.rules.proofs.Reading.FaultlessLaws.{or-else-none, set-fault-none, atoms-fault-none, positions-fault-none}
+use Rattle.rules.proofs.Reading.FaultlessLaws.{clause-fault-none, equality-fault-none}
 use Rattle.rules.proofs.Reading.RefusalLaws.{Faultless, read-faultless}
 use Rattle.steps.specs.Boxes.{BoxInside}
 use Rattle.steps.proofs.Boxes.BoxLaws.{same-length}
@@ -26,21 +25,10 @@ use Rattle.steps.proofs.Looks.PartLaws.{PartFits}
 set-below : (n m : ℕ) → SetFits n m → m < 2 ^ 32
 set-below n m i = inside-below m (full n) i (full-below n)
 
--- what a rule without a fault asks: positions from 1 to v, and values from 1 to n
-faultless-clause : (v n : ℕ) (atoms : List Atom) → ruleFault v n (clause atoms) ≡ 0 → Every (λ a. PositionFits v (a .position) × SetFits n (a .set)) atoms
-unfolding ruleFault
-faultless-clause v n atoms e = atoms-fault-none v n atoms .0 e
-
-faultless-equality : (v n m : ℕ) (ps : List ℕ) → ruleFault v n (equality m ps) ≡ 0 → (m < 2 ^ 32) × Every (PositionFits v) ps
-unfolding ruleFault
-faultless-equality v n m ps e =
-    let both = or-else-none (setFault n m) (positionsFault v ps) .0 e in
-    (set-below n m (set-fault-none n m .0 (both .0)), positions-fault-none v ps .0 (both .1))
-
 -- the set of a rule without a fault is a mask
 rule-mask : (v n : ℕ) (rule : Rule) → ruleFault v n rule ≡ 0 → MaskFits rule
 rule-mask v n (clause atoms) e = tt
-rule-mask v n (equality m ps) e = faultless-equality v n m ps e .0
+rule-mask v n (equality m ps) e = set-below n m (equality-fault-none v n m ps .0 e .0)
 
 -- a clause that asks of some positions that they be in a mask fits
 atoms-fit : (v m : ℕ) (ps : List ℕ) → Every (PositionFits v) ps → m < 2 ^ 32 → ClauseFits v (map (atomIn m) ps)
@@ -53,19 +41,19 @@ parts-fit : (v n : ℕ) (rule : Rule) → ruleFault v n rule ≡ 0 → Every (Pa
 unfolding partsOf equalityParts
 parts-fit v n (clause atoms) e = (
   every-map (λ a. PositionFits v (a .position) × SetFits n (a .set)) (λ a. (1 ≤ a .position) × (a .position ≤ v) × (a .set < 2 ^ 32)) atoms
-      (λ a h. (h .0 .0, h .0 .1, set-below n (a .set) (h .1))) (faultless-clause v n atoms e),
+      (λ a h. (h .0 .0, h .0 .1, set-below n (a .set) (h .1))) (clause-fault-none v n atoms .0 e),
   tt,
 )
 parts-fit v n (equality m ps) e =
     every-over-append (PartFits v) (map (λ p. oneOf (atomIn m p ∷ [])) ps) (map (λ x. oneOf (map (atomIn (single x)) ps)) (values m)) .1 (named, taken)
   where
-    fits : (m < 2 ^ 32) × Every (PositionFits v) ps
-    fits = faultless-equality v n m ps e
+    fits : SetFits n m × Every (PositionFits v) ps
+    fits = equality-fault-none v n m ps .0 e
 
     named : Every (PartFits v) (map (λ p. oneOf (atomIn m p ∷ [])) ps)
     named =
         every-over-map (PartFits v) (λ p. oneOf (atomIn m p ∷ [])) ps .1
-        (every-map (PositionFits v) (λ p. PartFits v (oneOf (atomIn m p ∷ []))) ps (λ p h. atoms-fit v m (p ∷ []) (h, tt) (fits .0)) (fits .1))
+        (every-map (PositionFits v) (λ p. PartFits v (oneOf (atomIn m p ∷ []))) ps (λ p h. atoms-fit v m (p ∷ []) (h, tt) (set-below n m (fits .0))) (fits .1))
 
     taken : Every (PartFits v) (map (λ x. oneOf (map (atomIn (single x)) ps)) (values m))
     taken =
