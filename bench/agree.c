@@ -192,44 +192,62 @@ static struct outcome compare(size_t answer_len, uint64_t allowance)
     return planned;
 }
 
-/* ---- examples with the replies that are right: 01's, l with the counts of 02 (R-2); and files that tell
-   readings of R-2 apart, which crates/bench_examples/src/step4.rt works out by hand ---- */
+/* ---- examples with the replies that are right: 01's, d with the place of 02 (R-3) and l with its counts
+   (R-2); and files that tell readings of R-3 and of R-2 apart, which unmet.rt and step4.rt of
+   crates/bench_examples/src/ work out by hand ---- */
 
 enum { CLAUSE = -1, EQUALITY = -2, END = -3 };
 
 static const struct example {
     const char *name;
     int rules[40]; /* v, n; then a clause with position, set, ..; an equality with M, position, .. */
-    uint64_t allowance, number, splits, dead_ends;
+    uint64_t allowance, number, place, splits, dead_ends;
     const char *plan; /* a digit for each position */
 } examples[] = {
     { "a", { 3, 2, CLAUSE, 1, 2, 2, 2, 3, 1, CLAUSE, 1, 1, 2, 1, CLAUSE, 3, 2, CLAUSE, 1, 2, 2, 1, END },
-      1000000, 0, 1, 1, "212" },
+      1000000, 0, 0, 1, 1, "212" },
     { "b", { 4, 2, CLAUSE, 1, 2, 2, 1, 3, 1, 4, 1, CLAUSE, 2, 2, 4, 1, CLAUSE, 3, 2, 4, 1, CLAUSE, 4, 2, END },
-      1000000, 0, 0, 0, "2222" },
-    { "c", { 2, 3, END }, 1000000, 0, 0, 0, "11" },
-    { "d", { 2, 3, CLAUSE, END }, 1000000, 1, 0, 1, "" },
-    { "e", { 2, 2, EQUALITY, 3, 1, 2, END }, 1000000, 0, 1, 0, "12" },
-    { "f", { 2, 2, EQUALITY, 3, 1, 2, END }, 0, 2, 0, 0, "" },
-    { "g", { 2, 3, EQUALITY, 7, 1, 2, END }, 1000000, 1, 1, 2, "" },
-    { "h", { 3, 3, EQUALITY, 7, 1, 2, 3, END }, 1000000, 0, 3, 1, "123" },
-    { "i", { 3, 3, EQUALITY, 7, 1, 2, 3, END }, 2, 2, 2, 1, "" },
-    { "j", { 2, 3, CLAUSE, 1, 6, CLAUSE, 1, 1, 2, 4, END }, 1000000, 0, 0, 0, "23" },
-    { "k", { 2, 2, CLAUSE, 1, 1, 2, 1, END }, 1000000, 0, 1, 0, "11" },
+      1000000, 0, 0, 0, 0, "2222" },
+    { "c", { 2, 3, END }, 1000000, 0, 0, 0, 0, "11" },
+    { "d", { 2, 3, CLAUSE, END }, 1000000, 1, 5, 0, 1, "" },
+    { "e", { 2, 2, EQUALITY, 3, 1, 2, END }, 1000000, 0, 0, 1, 0, "12" },
+    { "f", { 2, 2, EQUALITY, 3, 1, 2, END }, 0, 2, 0, 0, 0, "" },
+    { "g", { 2, 3, EQUALITY, 7, 1, 2, END }, 1000000, 1, 0, 1, 2, "" },
+    { "h", { 3, 3, EQUALITY, 7, 1, 2, 3, END }, 1000000, 0, 0, 3, 1, "123" },
+    { "i", { 3, 3, EQUALITY, 7, 1, 2, 3, END }, 2, 2, 0, 2, 1, "" },
+    { "j", { 2, 3, CLAUSE, 1, 6, CLAUSE, 1, 1, 2, 4, END }, 1000000, 0, 0, 0, 0, "23" },
+    { "k", { 2, 2, CLAUSE, 1, 1, 2, 1, END }, 1000000, 0, 0, 1, 0, "11" },
     { "l", { 3, 2, CLAUSE, 2, 1, 3, 1, CLAUSE, 2, 1, 3, 2, CLAUSE, 2, 2, 3, 1, CLAUSE, 2, 2, 3, 2, END },
-      1000000, 1, 1, 2, "" },
+      1000000, 1, 0, 1, 2, "" },
+    { "dead at the last field", { 2, 2, CLAUSE, 1, 1, 2, 1, CLAUSE, 1, 2, CLAUSE, 2, 2, CLAUSE, 2, 1, END },
+      1000000, 1, 34, 0, 1, "" },
+    { "dead in round two", { 2, 2, CLAUSE, 1, 2, 2, 1, CLAUSE, 1, 1, CLAUSE, 2, 2, END }, 1000000, 1, 5, 0, 1, "" },
+    { "dead in round two, allowance 0", { 2, 2, CLAUSE, 1, 2, 2, 1, CLAUSE, 1, 1, CLAUSE, 2, 2, END },
+      0, 1, 5, 0, 1, "" },
+    { "two dead fields", { 2, 2, CLAUSE, 1, 1, CLAUSE, 2, 0, CLAUSE, END }, 1000000, 1, 13, 0, 1, "" },
+    { "middle field in round two",
+      { 3, 2, CLAUSE, 3, 1, CLAUSE, 1, 1, 2, 1, CLAUSE, 1, 2, 3, 2, CLAUSE, 2, 2, END }, 1000000, 1, 13, 0, 1, "" },
+    { "equality dead by its own cut", { 1, 2, EQUALITY, 3, 1, CLAUSE, END }, 1000000, 1, 5, 0, 1, "" },
+    { "equality cuts at once",
+      { 3, 3, CLAUSE, 1, 3, CLAUSE, 2, 6, CLAUSE, 3, 4, EQUALITY, 7, 1, 2, 3, CLAUSE, 2, 4, END },
+      1000000, 1, 39, 0, 1, "" },
+    { "equality once in a round",
+      { 3, 3, CLAUSE, 1, 3, CLAUSE, 2, 5, CLAUSE, 3, 4, EQUALITY, 7, 1, 2, 3, CLAUSE, 2, 4, END },
+      1000000, 1, 29, 0, 1, "" },
+    { "dead after a split", { 2, 3, CLAUSE, 1, 7, EQUALITY, 7, 1, 2, END }, 1000000, 1, 0, 1, 2, "" },
+    { "dead after a split, allowance 0", { 2, 3, CLAUSE, 1, 7, EQUALITY, 7, 1, 2, END }, 0, 2, 0, 0, 0, "" },
     { "l, allowance 0",
       { 3, 2, CLAUSE, 2, 1, 3, 1, CLAUSE, 2, 1, 3, 2, CLAUSE, 2, 2, 3, 1, CLAUSE, 2, 2, 3, 2, END },
-      0, 2, 0, 0, "" },
-    { "own set", { 3, 2, CLAUSE, 1, 3, CLAUSE, 2, 1, 3, 1, END }, 1000000, 0, 1, 0, "111" },
-    { "own sets united", { 3, 2, CLAUSE, 1, 1, 1, 2, 2, 1, CLAUSE, 2, 2, 3, 1, END }, 1000000, 0, 1, 0, "111" },
+      0, 2, 0, 0, 0, "" },
+    { "own set", { 3, 2, CLAUSE, 1, 3, CLAUSE, 2, 1, 3, 1, END }, 1000000, 0, 0, 1, 0, "111" },
+    { "own sets united", { 3, 2, CLAUSE, 1, 1, 1, 2, 2, 1, CLAUSE, 2, 2, 3, 1, END }, 1000000, 0, 0, 1, 0, "111" },
     { "settled by another", { 3, 3, CLAUSE, 2, 3, CLAUSE, 1, 1, 2, 3, CLAUSE, 2, 1, 3, 1, END },
-      1000000, 0, 1, 0, "111" },
-    { "named and not live", { 3, 3, CLAUSE, 1, 6, CLAUSE, 1, 1, 2, 1, 3, 1, END }, 1000000, 0, 1, 0, "211" },
+      1000000, 0, 0, 1, 0, "111" },
+    { "named and not live", { 3, 3, CLAUSE, 1, 6, CLAUSE, 1, 1, 2, 1, 3, 1, END }, 1000000, 0, 0, 1, 0, "211" },
     { "values settled", { 5, 3, CLAUSE, 1, 3, CLAUSE, 2, 1, CLAUSE, 3, 2, EQUALITY, 7, 1, 2, 3, 4, 5, END },
-      1000000, 0, 1, 0, "11213" },
-    { "later clause", { 3, 2, CLAUSE, 2, 1, 3, 1, CLAUSE, 1, 2, 2, 2, END }, 1000000, 0, 1, 0, "121" },
-    { "largest", { 64, 32, END }, 1000000, 0, 0, 0,
+      1000000, 0, 0, 1, 0, "11213" },
+    { "later clause", { 3, 2, CLAUSE, 2, 1, 3, 1, CLAUSE, 1, 2, 2, 2, END }, 1000000, 0, 0, 1, 0, "121" },
+    { "largest", { 64, 32, END }, 1000000, 0, 0, 0, 0,
       "1111111111111111111111111111111111111111111111111111111111111111" },
 };
 
@@ -284,7 +302,7 @@ static void compare_examples(void)
 
         write_rules(example->rules);
         outcome = compare(64, example->allowance);
-        expect(outcome.number == example->number && outcome.place == 0
+        expect(outcome.number == example->number && outcome.place == example->place
                    && outcome.splits == example->splits && outcome.dead_ends == example->dead_ends,
                example->name);
         for (size_t i = 0; example->plan[i]; i++)
@@ -1033,6 +1051,9 @@ int main(int argc, char **argv)
     print_count("  one that a clause not settled names and that is not live there", yardstick_counts.passed_named);
     print_count("  one live in an equality not settled, in settled clauses alone", yardstick_counts.passed_equality);
     print_count("boxes found dead after a room of them was cut", yardstick_counts.dead_after_cut);
+    print_count("first boxes found dead: NONE with no split, and with a place", yardstick_counts.places);
+    print_count("  among them in a later round than the first", yardstick_counts.places_later);
+    print_count("  at an equality", yardstick_counts.places_equality);
     print_count("most rounds of shrinking in one box", yardstick_counts.most_rounds);
     print_count("most splits in one call", most_splits);
     print_count("searches of more than 1,500 splits with 1,000,000 allowed", long_run);

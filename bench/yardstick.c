@@ -1,5 +1,5 @@
 /* The yardstick: see yardstick.h. The section names in the comments are those of document 01; step 4 is
-   the one of document 02 (R-2).
+   the one of document 02 (R-2), and so is the place of a NONE (R-3).
 
    The rules are parsed once, into arrays: a clause into its positions, each with the union of that
    position's sets; an equality into M and its positions, each once. The search then never looks at the
@@ -54,6 +54,7 @@ struct rule {
 
 /* The shortest field has 3 bytes, and each part has at least a byte of its own in the file. */
 static struct rule rules[LONGEST_INPUT / HEAD];
+static uint32_t places[LONGEST_INPUT / HEAD]; /* of each rule, the offset of its field's tag byte */
 static struct part parts[LONGEST_INPUT];
 static uint32_t rule_count, part_count;
 static uint32_t v, n;
@@ -163,6 +164,8 @@ static int parse(const uint8_t *input, size_t input_len, uint64_t *place)
             return WRONG_LENGTH;
         if (left - HEAD < length)
             return BYTES_MISSING;
+        if (tag != 1)
+            places[rule_count] = (uint32_t)at;
         if (tag == 1) {
             v = content[0];
             n = content[1];
@@ -188,6 +191,7 @@ struct box {
 };
 
 static uint64_t allowed, split_count, dead_end_count;
+static const struct rule *first_dead; /* in the box last found dead, the rule first found so */
 static uint8_t plan[POSITIONS];
 
 #ifdef YARDSTICK_COUNTS
@@ -269,7 +273,7 @@ static enum look look_at_equality(const struct rule *rule, struct box *box)
 }
 
 /* Step 1: rounds over all fields in file order, each room cut at once, until a round changes nothing.
-   Answers whether the box is alive. */
+   Answers whether the box is alive; where it is not, first_dead is the rule first found dead. */
 static int shrink(struct box *box)
 {
     int changed;
@@ -290,7 +294,13 @@ static int shrink(struct box *box)
             if (look == DEAD) {
 #ifdef YARDSTICK_COUNTS
                 yardstick_counts.dead_after_cut += cut || changed;
+                if (split_count == 0) {
+                    yardstick_counts.places++;
+                    yardstick_counts.places_later += rounds > 1;
+                    yardstick_counts.places_equality += (uint64_t)rule->is_equality;
+                }
 #endif
+                first_dead = rule;
                 return 0;
             }
             if (look == CUT)
@@ -507,6 +517,8 @@ void yardstick_plan(const uint8_t *input, size_t input_len, uint8_t *answer, siz
     *number = (uint64_t)search(start);
     *splits = split_count;
     *dead_ends = dead_end_count;
+    if (*number == NONE && split_count == 0) /* the box found dead is the first one: its place is told */
+        *place = places[first_dead - rules];
     if (*number == PLAN)
         for (uint32_t i = 0; i < v; i++)
             answer[i] = plan[i];

@@ -1,5 +1,5 @@
-/* The yardstick: a planner in plain C, written from documents 01 and 02 (R-2 and R-8) alone, to compare the
-   proved planner with, in what it answers and in how long it takes. Nothing of it is proved. */
+/* The yardstick: a planner in plain C, written from documents 01 and 02 (R-2, R-3 and R-8) alone, to compare
+   the proved planner with, in what it answers and in how long it takes. Nothing of it is proved. */
 #ifndef YARDSTICK_H
 #define YARDSTICK_H
 
@@ -20,6 +20,9 @@ extern struct yardstick_counts {
     uint64_t splits_after_cut;
     /* boxes that shrinking found dead only after it had cut a room of them */
     uint64_t dead_after_cut;
+    /* first boxes that shrinking found dead, each a NONE with a place; of these, in a later round than the
+       first; and at an equality */
+    uint64_t places, places_later, places_equality;
     /* the largest number of rounds that shrinking one box took */
     uint64_t most_rounds;
     /* all splits; those that passed over a lower position of two or more values; and of these, such

@@ -83,7 +83,9 @@ enum oarloom_number {
  *
  *   *number     the number of the reply, as listed above
  *   *place      13 to 20: where the field at fault starts, the index of its tag byte in `input`,
- *               which is 0 for the header; 0 at every other reply
+ *               which is 0 for the header. 1 with 0 splits: where the field starts that was first
+ *               found to be met by nothing that the rules leave open, 5 or more. 0 at every other
+ *               reply, 1 with splits among them
  *   *splits     0, 1 and 2: the splits that the search made, never more than `allowance`, and equal
  *               to it at 2; 0 at a refusal
  *   *dead_ends  0, 1 and 2: the dead ends that it met; 0 at a refusal

@@ -1,12 +1,15 @@
-# Makes the stored output of `bench_examples`: 01's examples, files that tell readings of step 4 (02, R-2) apart, and the
-# ceilings, with the replies of the model. 01's "bytes from v on stay; all other replies write nothing" is the word
-# `kept` at the end of each line. Behind the line of a call stands what the program prints for the file.
+# Makes the stored output of `bench_examples`: 01's examples, files that tell readings of the place of a NONE (02, R-3)
+# and of step 4 (02, R-2) apart, and the ceilings, with the replies of the model. 01's "bytes from v on stay; all other
+# replies write nothing" is the word `kept` at the end of each line. Behind the line of a call stands what the program
+# prints for the file.
 import scope
 from writing import clause, equality, field, header
 
 CASE_E = header(2, 2) + equality({1, 2}, 1, 2)
 CASE_H = header(3, 3) + equality({1, 2, 3}, 1, 2, 3)
 CASE_L = header(3, 2) + b''.join(clause((2, {x}), (3, {y})) for x in (1, 2) for y in (1, 2))
+ROUND_TWO = header(2, 2) + clause((1, {2}), (2, {1})) + clause((1, {1})) + clause((2, {2}))
+AFTER_A_SPLIT = header(2, 3) + clause((1, {1, 2, 3})) + equality({1, 2, 3}, 1, 2)
 # A file of 32,768 bytes: v 1, n 32, and 6552 atoms whose five bytes are all 1.
 LONGEST = header(1, 32) + field(2, bytes([1] * 5 * 6552))
 
@@ -34,12 +37,35 @@ show('j', header(2, 3) + clause((1, {2, 3})) + clause((1, {1}), (2, {3})))
 show('k', header(2, 2) + clause((1, {1}), (2, {1})))
 show('l', CASE_L)
 
-# Step 4 (02, R-2): case l with no split allowed; files whose position 1 has two values or more and is not split, for the
-# reason in the name; and one whose lowest live position stands in the later clause.
+# R-3: the field first found dead. A round goes on behind a cut, to the last field; the next round starts at the first;
+# and a NONE with no split has its place with allowance 0 too.
+show('dead-at-the-last-field', header(2, 2) + clause((1, {1}), (2, {1})) + clause((1, {2})) + clause((2, {2}))
+     + clause((2, {1})))
+show('dead-in-round-two', ROUND_TWO)
+show('dead-in-round-two-allowance-0', ROUND_TWO, 0)
+# Of two fields that are dead from the start the first is told; in round two, the one between those that cut.
+show('two-dead-fields', header(2, 2) + clause((1, {1})) + clause((2, set())) + clause())
+show('middle-field-in-round-two', header(3, 2) + clause((3, {1})) + clause((1, {1}), (2, {1}))
+     + clause((1, {2}), (3, {2})) + clause((2, {2})))
+# Value 1 cuts the room of the only position, and value 2 finds it without that value: dead before the empty clause is.
+show('equality-dead-by-its-own-cut', header(1, 2) + equality({1, 2}, 1) + clause())
+# Value 1 cuts room 1, and so value 2 cuts room 2 in the same look: the last clause is dead in round one. Then the other
+# way round: value 2 cuts room 1, and value 1, already passed, is first dead in round two.
+show('equality-cuts-at-once', header(3, 3) + clause((1, {1, 2})) + clause((2, {2, 3})) + clause((3, {3}))
+     + equality({1, 2, 3}, 1, 2, 3) + clause((2, {3})))
+show('equality-once-in-a-round', header(3, 3) + clause((1, {1, 2})) + clause((2, {1, 3})) + clause((3, {3}))
+     + equality({1, 2, 3}, 1, 2, 3) + clause((2, {3})))
+# Both halves are dead at the equality, at byte 13: a NONE with a split has place 0, and so has UNDECIDED.
+show('dead-after-a-split', AFTER_A_SPLIT)
+show('dead-after-a-split-allowance-0', AFTER_A_SPLIT, 0)
+
+# Step 4 (02, R-2): case l with no split allowed; files whose position 1 has two values or more and is not split, for
+# the reason in the name; and one whose lowest live position stands in the later clause.
 show('l-allowance-0', CASE_L, 0)
 show('own-set', header(3, 2) + clause((1, {1, 2})) + clause((2, {1}), (3, {1})))
 show('own-sets-united', header(3, 2) + clause((1, {1}), (1, {2}), (2, {1})) + clause((2, {2}), (3, {1})))
-show('settled-by-another', header(3, 3) + clause((2, {1, 2})) + clause((1, {1}), (2, {1, 2})) + clause((2, {1}), (3, {1})))
+show('settled-by-another', header(3, 3) + clause((2, {1, 2})) + clause((1, {1}), (2, {1, 2}))
+     + clause((2, {1}), (3, {1})))
 show('named-and-not-live', header(3, 3) + clause((1, {2, 3})) + clause((1, {1}), (2, {1}), (3, {1})))
 show('values-settled', header(5, 3) + clause((1, {1, 2})) + clause((2, {1})) + clause((3, {2}))
      + equality({1, 2, 3}, 1, 2, 3, 4, 5))

@@ -14,9 +14,9 @@ from itertools import zip_longest
 
 import scope
 
-# A printed reply: its first line, and the line of values.
+# A printed reply: its first line, and the line of values. NONE alone may have a fourth word, a place above 0 (R-3).
 NUMBER = '(0|[1-9][0-9]{0,8})'
-FIRST_LINE = re.compile(f'(PLAN|NONE|UNDECIDED|REFUSED) {NUMBER} {NUMBER}\n')
+FIRST_LINE = re.compile(f'(PLAN|NONE|UNDECIDED|REFUSED) {NUMBER} {NUMBER}(?: (?!0){NUMBER})?\n')
 VALUES_LINE = re.compile(f'{NUMBER}( {NUMBER})*\n')
 KINDS = {'PLAN': scope.PLAN, 'NONE': scope.NONE, 'UNDECIDED': scope.UNDECIDED}
 
@@ -113,9 +113,10 @@ def parse(printed):
     if not lines[-1].endswith('\n'):
         raise Unreadable(f'line {len(lines)} of the reply is not ended')
     first = FIRST_LINE.fullmatch(lines[0])
-    if not first:
-        raise Unreadable('line 1 is not PLAN, NONE, UNDECIDED or REFUSED with two numbers and single spaces')
-    kind, one, two = first[1], int(first[2]), int(first[3])
+    if not first or first[4] and first[1] != 'NONE':
+        raise Unreadable('line 1 is not PLAN, NONE, UNDECIDED or REFUSED with two numbers, or NONE with a place above '
+                         '0 as well, and single spaces')
+    kind, one, two, place = first[1], int(first[2]), int(first[3]), int(first[4] or 0)
     wanted = 2 if kind == 'PLAN' else 1
     if len(lines) > wanted:
         raise Unreadable(f'{kind} ends with line {wanted}, and the reply goes on')
@@ -123,7 +124,7 @@ def parse(printed):
         raise Unreadable('PLAN has no line 2 of values with single spaces')
     if kind == 'REFUSED':
         return scope.Reply(one, two, 0, 0, ())
-    return scope.Reply(KINDS[kind], 0, one, two, tuple(int(word) for line in lines[1:] for word in line.split()))
+    return scope.Reply(KINDS[kind], place, one, two, tuple(int(word) for line in lines[1:] for word in line.split()))
 
 
 # ---- What the reply says, held against the file
@@ -181,6 +182,18 @@ def check_counts(number, splits, dead_ends):
     return wrong
 
 
+# Tests what holds for the place of any NONE (R-3): there is one exactly if there is no split, and a rule stands there.
+def check_place(rules, splits, place):
+    if splits == 0 and place == 0:
+        return ['NONE with no split has a place, and the reply has none']
+    wrong = []
+    if splits > 0 and place > 0:
+        wrong.append(f'NONE with a split has no place, and the reply has {place}')
+    if place > 0 and not any(rule.place == place for rule in rules):
+        wrong.append(f'no rule starts at byte {place}')
+    return wrong
+
+
 # Tests a reply without redoing the search. Gives what is wrong.
 def check_reply(header, rules, reply):
     if reply.number not in KINDS.values():
@@ -188,7 +201,8 @@ def check_reply(header, rules, reply):
     if not header:
         return ['the file is refused, and the reply is not']
     wrong = check_plan(header, rules, reply.values) if reply.number == scope.PLAN else []
-    return wrong + check_counts(reply.number, reply.splits, reply.dead_ends)
+    wrong += check_counts(reply.number, reply.splits, reply.dead_ends)
+    return wrong + (check_place(rules, reply.splits, reply.place) if reply.number == scope.NONE else [])
 
 
 # ---- The search redone
@@ -209,6 +223,13 @@ def check_first(values, redone):
     elif redone.number == scope.NONE:
         print('no assignment meets the rules: the search, redone, finds none')
     return ['an earlier assignment meets the rules'] if () < redone.values < values else []
+
+
+# Says which field is the one first found dead, by the search that was redone; nothing where that gives no place.
+def say_first_dead(rules, redone):
+    for rule in rules:
+        if redone.number == scope.NONE and rule.place == redone.place:
+            print(f'byte {rule.place}: the field first found dead is the {field_words(rule)}')
 
 
 # A line of a reply where it differs, with its end.
@@ -239,6 +260,7 @@ def redo(file, rules, printed, reply, whole):
         return [f'the search needs more than {reply.splits} splits'] if few else [], False
     print(f'the reply redone, with {scope.PROGRAM_SPLITS} splits allowed:')
     wrong = check_first(reply.values, redone) if reply and reply.number == scope.PLAN else []
+    say_first_dead(rules, redone)
     return wrong + compare(printed, scope.text(redone)), True
 
 

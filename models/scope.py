@@ -1,5 +1,5 @@
-# A model of documents 01 and 02 (R-2 and R-8), written from their text alone: reading a rule file, what rules mean, the
-# search step for step, the reply, and what the program prints. A set is a Python set of the values in it.
+# A model of documents 01 and 02 (R-2, R-3 and R-8), written from their text alone: reading a rule file, what rules
+# mean, the search step for step, the reply, and what the program prints. A set is a Python set of the values in it.
 from collections import namedtuple
 
 # The ceilings.
@@ -13,7 +13,8 @@ PROGRAM_SPLITS = 100000
 
 # The replies that are not refusals.
 PLAN, NONE, UNDECIDED = 0, 1, 2
-# A reply. The values are those of a plan; every other reply has none.
+# A reply. The place is that of a refusal, or of a NONE with no split (R-3), and else 0. The values are those of a
+# plan; every other reply has none.
 Reply = namedtuple('Reply', 'number place splits dead_ends values')
 
 # The fields of a rule file. A field's place is the offset of its tag byte.
@@ -201,27 +202,28 @@ def live_in(clause, rooms):
     return live
 
 
-# Step 1: rounds through the clauses in file order, each room cut at once, until a round cuts nothing. None where
-# a clause has no live position: the box is dead.
+# Step 1: rounds through the fields in file order, the clauses of each in 01's order and each room cut at once, until
+# a round cuts nothing. Every clause comes with the place of its field. Gives the rooms, and where the box is dead the
+# place of the field first found dead (R-3), one with a clause that has no live position; 0 where it is not dead.
 def shrink(clauses, rooms):
     rooms, cut = dict(rooms), True
     while cut:
         cut = False
-        for clause in clauses:
+        for place, clause in clauses:
             live = live_in(clause, rooms)
             if not live:
-                return None
+                return rooms, place
             position, union = live[0]
             if len(live) == 1 and not rooms[position] <= union:
                 rooms[position] = rooms[position] & union
                 cut = True
-    return rooms
+    return rooms, 0
 
 
 # Step 2: the clauses not yet settled, those that have no position whose room lies inside its union. The box is
 # settled if there are none.
 def unsettled(clauses, rooms):
-    return [clause for clause in clauses if not any(rooms[position] <= union for position, union in clause)]
+    return [clause for place, clause in clauses if not any(rooms[position] <= union for position, union in clause)]
 
 
 # Step 4, as R-2 has it: the lowest-numbered position with two or more values in its room that is live in some clause
@@ -238,15 +240,16 @@ def halves(rooms, position):
 
 
 # Steps 1 to 4 from the box of full rooms on. 01's search calls itself for each half; here the boxes that are still
-# to be searched wait in a list, the next one last, so that the second half waits until the first gave no plan.
+# to be searched wait in a list, the next one last, so that the second half waits until the first gave no plan. A NONE
+# with no split has met one box, the first, and has the place where that one is dead; any other has place 0 (R-3).
 def search(header, rules, allowance):
-    clauses = [united(atoms) for rule in rules for atoms in clauses_of(rule)]
+    clauses = [(rule.place, united(atoms)) for rule in rules for atoms in clauses_of(rule)]
     full = frozenset(range(1, header.n + 1))
     waiting = [{position: full for position in range(1, header.v + 1)}]
     splits = dead_ends = 0
     while waiting:
-        rooms = shrink(clauses, waiting.pop())
-        if rooms is None:
+        rooms, dead_at = shrink(clauses, waiting.pop())
+        if dead_at > 0:
             dead_ends += 1
             continue
         left = unsettled(clauses, rooms)
@@ -258,7 +261,7 @@ def search(header, rules, allowance):
         splits += 1
         first, second = halves(rooms, position)
         waiting += [second, first]
-    return Reply(NONE, 0, splits, dead_ends, ())
+    return Reply(NONE, dead_at if splits == 0 else 0, splits, dead_ends, ())
 
 
 # ---- Replies
@@ -283,18 +286,32 @@ def reply(file, buffer_length, allowance):
     return search(header, rules, allowance)
 
 
-# A reply as the lines that the program prints.
+# A reply as the lines that the program prints. The place of a NONE that has one is a fourth word (R-3).
 def text(reply):
     if reply.number == PLAN:
         values = ' '.join(str(value) for value in reply.values)
         return f'PLAN {reply.splits} {reply.dead_ends}\n{values}\n'
     if reply.number == NONE:
-        return f'NONE {reply.splits} {reply.dead_ends}\n'
+        place = f' {reply.place}' if reply.place > 0 else ''
+        return f'NONE {reply.splits} {reply.dead_ends}{place}\n'
     if reply.number == UNDECIDED:
         return f'UNDECIDED {reply.splits} {reply.dead_ends}\n'
     return f'REFUSED {reply.number} {reply.place}\n'
 
 
+# What the program says on standard error, behind `oarloom: `, of a NONE with a place (R-3); no words of any other NONE,
+# nor of a PLAN or UNDECIDED. The words of a refusal are not modelled.
+def why_none(reply):
+    if reply.number == NONE and reply.place > 0:
+        return f'the field at byte {reply.place} cannot be met by what the rules leave open'
+    return ''
+
+
+# The program's reply to an input.
+def program_reply(file):
+    return reply(file, LEAST_BUFFER, PROGRAM_SPLITS)
+
+
 # What the program prints for an input.
 def printed(file):
-    return text(reply(file, LEAST_BUFFER, PROGRAM_SPLITS))
+    return text(program_reply(file))

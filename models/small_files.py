@@ -1,5 +1,5 @@
-# Makes the expected output of `small_files` from the text of 01 and of 02's R-2 alone: the same files by the same
-# generator, and a model of the refusals, of the meaning and of the search on Python's sets of values.
+# Makes the expected output of `small_files` from the text of 01 and of 02's R-2 and R-3 alone: the same files by the
+# same generator, and a model of the refusals, of the meaning and of the search on Python's sets of values.
 #
 # Every call of the planner that the program makes is made here too, in the same order, and the number, the place,
 # the splits and the dead ends of each go into the checksum one by one. So the calls are compared one for one, and
@@ -117,13 +117,13 @@ def read(file):
                 if not 1 <= p <= v: return ('refused', 19, at)
                 if s and max(s) > n: return ('refused', 20, at)
                 atoms.append((p, s))
-            rules.append(('clause', atoms))
+            rules.append(('clause', atoms, at))
         else:
             s = members(c[:4])
             if s and max(s) > n: return ('refused', 20, at)
             for p in c[4:]:
                 if not 1 <= p <= v: return ('refused', 19, at)
-            rules.append(('equality', s, list(c[4:])))
+            rules.append(('equality', s, list(c[4:]), at))
         at += 3 + length
     return ('sound', v, n, rules)
 
@@ -137,37 +137,47 @@ def first(v, n, rules):
         if all(met(r, a) for r in rules): return a
     return None
 
-# ---- 01, "The search, step for step", with step 4 as 02 has it (R-2)
-def clauses(rules):
-    out = []
-    for r in rules:
-        if r[0] == 'clause': cs = [r[1]]
-        else: cs = [[(p, r[1])] for p in r[2]] + [[(p, frozenset([m])) for p in r[2]] for m in sorted(r[1])]
-        for c in cs:
-            union = {}
-            for p, s in c: union[p] = union.get(p, frozenset()) | s
-            out.append(union)
-    return out
+# ---- 01, "The search, step for step", with step 4 as 02 has it (R-2) and the place of the field first found dead (R-3)
+def united(c):
+    union = {}
+    for p, s in c: union[p] = union.get(p, frozenset()) | s
+    return union
+
+# A field as its place and its clauses, those of an equality in 01's order.
+def as_clauses(r):
+    if r[0] == 'clause': cs = [r[1]]
+    else: cs = [[(p, r[1])] for p in r[2]] + [[(p, frozenset([m])) for p in r[2]] for m in sorted(r[1])]
+    return r[-1], [united(c) for c in cs]
 
 class Stop(Exception): pass
+# The place is that of the first box where shrinking finds it dead, and else 0, as in every search that splits.
 class Search:
-    place = 0
     def __init__(self, v, n, rules, allowed):
-        self.v, self.cs, self.allowed, self.splits, self.dead = v, clauses(rules), allowed, 0, 0
+        self.fields, self.allowed, self.splits, self.dead = [as_clauses(r) for r in rules], allowed, 0, 0
+        self.cs = [u for _, us in self.fields for u in us]
         try:
             plan = self.box([frozenset(range(1, n + 1))] * v)
             self.number, self.plan = (0, plan) if plan else (1, None)
         except Stop as s: self.number, self.plan = s.args[0], None
+    # One field, its clauses in turn, each room cut at once. Whether it is dead; it is left at its first dead clause.
+    def look(self, us, rooms):
+        for u in us:
+            live = [p for p in u if rooms[p - 1] & u[p]]
+            if not live: return True
+            if len(live) == 1: rooms[live[0] - 1] &= u[live[0]]
+        return False
+    # The fields in file order, over and over: the place of the field first found dead, 0 where a round changes nothing.
+    def shrink(self, rooms):
+        while True:
+            before = list(rooms)
+            for place, us in self.fields:
+                if self.look(us, rooms): return place
+            if rooms == before: return 0
     def box(self, rooms):
         rooms = list(rooms)
-        change = True
-        while change:
-            change = False
-            for u in self.cs:
-                live = [p for p in u if rooms[p - 1] & u[p]]
-                if not live: self.dead += 1; return None
-                if len(live) == 1 and not rooms[live[0] - 1] <= u[live[0]]:
-                    rooms[live[0] - 1] &= u[live[0]]; change = True
+        dead_at = self.shrink(rooms)
+        if self.splits == 0: self.place = dead_at
+        if dead_at: self.dead += 1; return None
         left = [u for u in self.cs if not any(rooms[p - 1] <= u[p] for p in u)]
         if not left: return tuple(min(r) for r in rooms)
         i = next(i for i, r in enumerate(rooms) if len(r) >= 2 and any(r & u.get(i + 1, set()) for u in left))
@@ -216,16 +226,18 @@ def judge(file, origin=False):
     elif STATS: hist['many', s.number] = hist.get(('many', s.number), 0) + 1
     if s.number == 1: assert s.dead == s.splits + 1
     if s.number == 0: assert s.dead <= s.splits
+    assert s.place in [r[-1] for r in rules] if s.number == 1 and s.splits == 0 else s.place == 0
     return s
 
 def one(src, file, number):
     T['files'] += 1; T['comparisons'] += 1
     assert len(file) < 256
     full = judge(file, True)
-    same = lambda s: (s.number, s.plan, s.splits, s.dead) == (full.number, full.plan, full.splits, full.dead)
+    whole = lambda s: (s.number, s.place, s.plan, s.splits, s.dead)
+    same = lambda s: whole(s) == whole(full)
     for a in range(0, min(full.splits, 99) + 2):
         s = ask(file, 64, a)
-        assert (s.number == 2 and s.splits == a and s.dead <= a) if a < full.splits else same(s)
+        assert (s.number == 2 and s.place == 0 and s.splits == a and s.dead <= a) if a < full.splits else same(s)
     if number % 100 == 0:
         judge(file, True)
         for length in range(60, 69):

@@ -34,7 +34,8 @@ pub(crate) fn show_lent(name: &[u8], input: &[u8], lent: usize, allowance: u64, 
 
 // What the program prints for a file, by the function that it calls.
 fn printed(input: &[u8]) {
-    let text = answer(input);
+    let output = answer(input);
+    let text = output.printed;
     let bytes = text.bytes;
     let len = text.len;
     put(STDOUT_FILENO, &bytes, len);

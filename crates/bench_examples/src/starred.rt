@@ -1,5 +1,5 @@
-// 01's starred cases, with its own letters; the counts of l are those of 02 (R-2). In a file of several
-// fields each stands on a line.
+// 01's starred cases, with its own letters; the counts of l are those of 02 (R-2), and the place of d is
+// (R-3). In a file of several fields each stands on a line.
 use super::line::show;
 
 // All of them, in this order.

@@ -15,8 +15,9 @@ use Rattle.steps.specs.Table.{planned, ofReading}
 use Rattle.searching.specs.declared.reply.Reply.{Reply}
 use Rattle.searching.specs.Answered.{told}
 use Rattle.planner.specs.Promise.{Accepted, Planned}
+use Rattle.planner.proofs.EveryReply.{reply-limits}
 use Rattle.planner.proofs.ReplyLaws.{of-every-reply, read-counts}
-use Rattle.texts.specs.declared.Text.{Text}
+use Rattle.lines.specs.declared.answer.Output.{Output}
 use Rattle.texts.specs.Grown.{shown}
 use Rattle.texts.proofs.GrownLaws.{shown-line}
 use Rattle.lines.specs.Text.{textOf}
@@ -32,29 +33,33 @@ promised-printable input before after allowed r promised =
   where
     read : (found : Reading) → reading input ≡ found → length input ≤ 32768 → 64 ≤ length before → allowed ≤ 1000000 → r ≡ told (ofReading found allowed) → Printable (told (ofReading found allowed))
     read (sound file) e short roomy modest is =
-        let low = promised .decided file (record { short = short; roomy = roomy; modest = modest; read = e }) in
+        let accepted : Accepted input before allowed file = record { short = short; roomy = roomy; modest = modest; read = e } in
+        let low = promised .decided file accepted in
         let found = planned file allowed in
         let same : r .number ≡ found .number = ap (λ (s : Reply). s .number) is in
         let counts = read-counts input file e allowed in
-        rw (counts .place) (ends (found .number) (found .splits) (found .deadEnds) (omega arith) (omega (arith, counts .within)) (omega (arith, counts .within, counts .fewer)))
+        let nowhere : (found .number ≡ 1 → ⊥) → found .place ≡ 0 = λ other. sym (ap (λ (s : Reply). s .place) is) ∙ promised .placeless file accepted (λ both. other (sym same ∙ both .0)) in
+        let near : found .place ≤ 32768 = subst (λ (s : Reply). s .place ≤ 32768) is (reply-limits input before after allowed r promised .place) in
+        ends (found .number) (found .place) (found .splits) (found .deadEnds) (omega arith) nowhere (omega arith) (omega (arith, counts .within)) (omega (arith, counts .within, counts .fewer))
     read (refused number place) e short roomy modest is =
         let range = refused-number input number place e in
         refuses number place (omega arith) (omega arith) (omega (arith, refused-place input number place e))
 
 -- the values that are printed for an input, where its reply is a plan
-valuesIn : (input : List ℕ) {text : Text} → Printed input text → List ℕ
+valuesIn : (input : List ℕ) {output : Output} → Printed input output → List ℕ
 valuesIn input p = take (positionsOf (reading input)) (p .after)
 
 -- one text is the text of both replies
-both-texts : (input other : List ℕ) (text : Text) (p : Printed input text) (q : Printed other text) → textOf (p .reply) (valuesIn input p) ≡ textOf (q .reply) (valuesIn other q)
+both-texts : (input other : List ℕ) (a b : Output) (p : Printed input a) (q : Printed other b) → a .printed ≡ b .printed
+    → textOf (p .reply) (valuesIn input p) ≡ textOf (q .reply) (valuesIn other q)
 unfolding valuesIn
-both-texts input other text p q = sym (shown-line _) ∙ ap shown (sym (p .printed) ∙ q .printed) ∙ shown-line _
+both-texts input other a b p q same = sym (shown-line _) ∙ ap shown (sym (p .printed) ∙ same ∙ q .printed) ∙ shown-line _
 
 -- the same text, the same reply
-pub printed-apart : (input other : List ℕ) (text : Text) (p : Printed input text) (q : Printed other text) → p .reply ≡ q .reply
-printed-apart input other text p q =
+pub printed-apart : (input other : List ℕ) (a b : Output) (p : Printed input a) (q : Printed other b) → a .printed ≡ b .printed → p .reply ≡ q .reply
+printed-apart input other a b p q same =
     texts-apart (valuesIn input p) (valuesIn other q) (promised-printable input (replicate 64 0) (p .after) 100000 (p .reply) (p .planned))
-    (promised-printable other (replicate 64 0) (q .after) 100000 (q .reply) (q .planned)) (both-texts input other text p q)
+    (promised-printable other (replicate 64 0) (q .after) 100000 (q .reply) (q .planned)) (both-texts input other a b p q same)
 
 -- ---- values
 
@@ -81,13 +86,13 @@ module _ (input after : List ℕ) (r : Reply) (bytes : Every (λ b. b < 256) inp
   plan-values (refused number place) e = absurd (plan-accepted λ file accepted. let z : _≡_ {A = ℕ} 0 1 = cc (accepted .read) in omega arith)
 
 -- the same text of a plan, the same values
-pub printed-values-apart : (input other : List ℕ) (text : Text) (p : Printed input text) (q : Printed other text)
+pub printed-values-apart : (input other : List ℕ) (a b : Output) (p : Printed input a) (q : Printed other b) → a .printed ≡ b .printed
     → Every (λ b. b < 256) input → Every (λ b. b < 256) other → p .reply .number ≡ 0
     → take (positionsOf (reading input)) (p .after) ≡ take (positionsOf (reading other)) (q .after)
 unfolding valuesIn
-printed-values-apart input other text p q bytes also plan =
-    let too : q .reply .number ≡ 0 = ap (λ (r : Reply). r .number) (sym (printed-apart input other text p q)) ∙ plan in
+printed-values-apart input other a b p q same bytes also plan =
+    let too : q .reply .number ≡ 0 = ap (λ (r : Reply). r .number) (sym (printed-apart input other a b p q same)) ∙ plan in
     values-apart (p .reply) (q .reply) (valuesIn input p) (valuesIn other q) plan too
     (plan-values input (p .after) (p .reply) bytes (p .planned) plan (reading input) refl)
     (plan-values other (q .after) (q .reply) also (q .planned) too (reading other) refl)
-    (both-texts input other text p q)
+    (both-texts input other a b p q same)

@@ -1,4 +1,5 @@
--- What is printed for a reply and for a file: the promises of `text` and `answer`. The contracts of `src/reply.rt` and `src/answer.rt` cite these. Assumes nothing.
+-- What is printed for a reply, and what is printed and said for a file: the promises of `text` and `answer`. The contracts of `src/reply.rt` and `src/answer.rt`
+-- cite these. Assumes nothing.
 use mathlib.Core.Path.{_≡_}
 use mathlib.Core.List.{List}
 use Prim.Native.Nat.{ℕ}
@@ -8,6 +9,8 @@ use Rattle.searching.specs.declared.reply.Reply.{Reply}
 use Rattle.planner.specs.Promise.{Planned}
 use Rattle.texts.specs.declared.Text.{Text}
 use Rattle.texts.specs.Grown.{lineOf}
+use Rattle.reasons.specs.Words.{Reasoned}
+use Rattle.lines.specs.declared.answer.Output.{Output}
 use Rattle.lines.specs.Text.{textOf}
 
 -- the text is that of a reply, where the first v values are a plan's
@@ -19,10 +22,11 @@ unfoldable pub positionsOf : Reading → ℕ
 positionsOf (sound file) = file .v
 positionsOf (refused number place) = 0
 
--- there are a reply and a later buffer that the planner promises for this input, 100,000 splits and a buffer of 64 zeros, and the text is
--- that of this reply with the values of the file's own positions
-pub record Printed (input : List ℕ) (text : Text) : Type 0 where
+-- there are a reply and a later buffer that the planner promises for this input, 100,000 splits and a buffer of 64 zeros; the text that is printed is
+-- that of this reply with the values of the file's own positions, and what is said are the words for this reply
+pub record Printed (input : List ℕ) (output : Output) : Type 0 where
   pub reply : Reply
   pub after : List ℕ
   pub planned : Planned input (replicate 64 0) after 100000 reply
-  pub printed : Shown reply after (positionsOf (reading input)) text
+  pub printed : Shown reply after (positionsOf (reading input)) (output .printed)
+  pub said : Reasoned (reply .number) (reply .place) (output .said)

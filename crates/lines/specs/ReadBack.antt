@@ -13,15 +13,15 @@ use Rattle.searching.specs.Answered.{told}
 unfoldable pub firstByte : List ℕ → ℕ
 firstByte word = getD word 0 0
 
--- the reply that the words of a text are: by the first letter, P, N or U, and a refusal for any other
+-- the reply that the words of a text are: by the first letter, P, N or U, and a refusal for any other; N may have a place behind its counts
 unfoldable pub replyIn : List (List ℕ) → Reply
 replyIn words =
     let letter = firstByte (getD words 0 []) in
     let first = numberIn (getD words 1 []) in
     let second = numberIn (getD words 2 []) in
-    ifTest (eqb letter 80) (told (ended 0 first second)) λ _.
-    ifTest (eqb letter 78) (told (ended 1 first second)) λ _.
-    ifTest (eqb letter 85) (told (ended 2 first second)) λ _.
+    ifTest (eqb letter 80) (told (ended 0 0 first second)) λ _.
+    ifTest (eqb letter 78) (told (ended 1 (numberIn (getD words 3 [])) first second)) λ _.
+    ifTest (eqb letter 85) (told (ended 2 0 first second)) λ _.
     told (refusal first second)
 
 -- the numbers behind the first three words

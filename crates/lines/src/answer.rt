@@ -1,10 +1,10 @@
-// From the bytes of a file to the text that the program prints for it. The contracts cite
-// specs/Printed.antt.
+// From the bytes of a file to what the program writes for it. The contracts cite specs/Printed.antt.
 ghost use mathlib.Core.Path.{_≡_};
 ghost use Rattle.rules.specs.Reading.{reading};
 ghost use Rattle.lines.specs.Printed.{Printed, positionsOf};
 use super::reply::text;
 use planner::plan::plan;
+use reasons::reason;
 use sets::Room;
 use sound::check::Checked;
 use sound::check::check;
@@ -27,13 +27,22 @@ fn positions(input: &[u8]) -> usize
     }
 }
 
-// What the program prints for an input: the reply with 100,000 splits allowed, and the values of a
-// plan, one for each of the file's positions.
-pub fn answer(input: &[u8]) -> Text
+// What the program writes for an input: the text that it prints, and what it says of the reply in
+// words, on standard error.
+pub struct Output {
+    pub printed: Text,
+    pub said: Text,
+}
+
+// What the program writes for an input: the reply with 100,000 splits allowed, with the values of a
+// plan, one for each of the file's positions, and the words for that reply.
+pub fn answer(input: &[u8]) -> Output
     ensures { λ r. ⌜ Printed (now (input .entry)) r ⌝ }
 {
     let mut values = [0u8; Room::POSITIONS];
     let reply = plan(input, &mut values, ALLOWANCE);
+    let said = reason(reply.number, reply.place);
     let v = positions(input);
-    text(reply, &values, v)
+    let printed = text(reply, &values, v);
+    Output { printed, said }
 }

@@ -1,21 +1,21 @@
 // The program: takes a file of rules from standard input, prints the reply with 100,000 splits allowed,
-// and says on standard error why a file is refused. What is printed is computed from the bytes that were
-// read by `answer` of `lines` and `reason` of `reasons`, which are proved. Where a read or the write of
-// the reply fails, one line on standard error says so; where a read failed nothing is printed.
+// and says on standard error why a file is refused, or which field cannot be met. What is printed and
+// said is computed from the bytes that were read by `answer` of `lines`, which is proved. Where a read or
+// the write of the reply fails, one line on standard error says so; where a read failed nothing is
+// printed.
 use libc::STDERR_FILENO;
 use libc::STDIN_FILENO;
 use libc::STDOUT_FILENO;
 use lines::answer::answer;
-use reasons::reason;
 use streams::Taken;
 use streams::put;
 use streams::take_whole;
+use texts::Text;
 
-// Says why the input is refused, where it is.
-fn explain(input: &[u8]) {
-    let why = reason(input);
-    let bytes = why.bytes;
-    let len = why.len;
+// Says the words for a reply, where there are any.
+fn explain(said: Text) {
+    let bytes = said.bytes;
+    let len = said.len;
     if 0 < len {
         io::write_all(STDERR_FILENO, b"oarloom: ");
         put(STDERR_FILENO, &bytes, len);
@@ -24,11 +24,12 @@ fn explain(input: &[u8]) {
 
 // Prints the reply to an input.
 fn reply_to(input: &[u8]) {
-    let printed = answer(input);
+    let output = answer(input);
+    let printed = output.printed;
     let bytes = printed.bytes;
     let len = printed.len;
     if put(STDOUT_FILENO, &bytes, len) {
-        explain(input);
+        explain(output.said);
     } else {
         os::fail(b"oarloom: standard output");
     }

@@ -1,5 +1,5 @@
 -- What holds of every reply that the promise allows: its number is 0, 1 or 2 or a refusal's (`reply-numbers`), its other numbers are small (`reply-limits`), NONE has one dead end more than splits (`none-counted`). Assumes nothing.
-use mathlib.Core.Path.{_≡_, sym, subst}
+use mathlib.Core.Path.{_≡_, sym, ap, subst}
 use mathlib.Core.Logic.{_⊎_, inl, inr}
 use mathlib.Core.List.{List}
 use Prim.Native.Nat.{ℕ, _+_, _≤_}
@@ -14,6 +14,7 @@ use Rattle.searching.specs.declared.reply.Reply.{Reply}
 use Rattle.searching.specs.Answered.{told}
 use Rattle.planner.specs.Promise.{Planned}
 use Rattle.planner.proofs.ReplyLaws.{of-every-reply, read-counts}
+use Rattle.planner.proofs.UnmetField.{place-within}
 
 -- a place within the longest input, no more splits than may be allowed, and at most one dead end more; one more in NONE
 pub record Limited (r : Reply) : Type 0 where
@@ -23,32 +24,43 @@ pub record Limited (r : Reply) : Type 0 where
   pub none : r .number ≡ 1 → r .«dead_ends» ≡ r .splits + 1
 
 -- the reply to what was read
-read-limited : (input : List ℕ) (allowed : ℕ) (found : Reading) → reading input ≡ found → length input ≤ 32768 → allowed ≤ 1000000 → Limited (told (ofReading found allowed))
+read-limited : (input : List ℕ) (allowed : ℕ) (found : Reading) → reading input ≡ found → allowed ≤ 1000000 → ofReading found allowed .place ≤ 32768
+    → Limited (told (ofReading found allowed))
 unfolding ofReading
-read-limited input allowed (sound file) read short modest =
+read-limited input allowed (sound file) read modest near =
     let counts = read-counts input file read allowed in
     record {
-      place = omega (arith, counts .place);
+      place = near;
       splits = omega (arith, counts .within);
       deadEnds = omega (arith, counts .within, counts .fewer);
       none = λ e. omega (arith, counts .none e);
     }
-read-limited input allowed (refused number place) read short modest =
+read-limited input allowed (refused number place) read modest near =
     record {
-      place = omega (arith, refused-place input number place read);
+      place = near;
       splits = omega arith;
       deadEnds = omega arith;
       none = λ e. absurd (omega (arith, refused-number input number place read));
     }
 
 module _ (input before after : List ℕ) (allowed : ℕ) (r : Reply) (promised : Planned input before after allowed r) where
+  -- the place lies within the input: that of a refusal as it was read, that of a NONE as a field's
+  read-near : (found : Reading) → reading input ≡ found → length input ≤ 32768 → 64 ≤ length before → allowed ≤ 1000000 → r ≡ told (ofReading found allowed) → r .place ≤ 32768
+  unfolding ofReading
+  read-near (sound file) read short roomy modest is =
+      omega (arith, place-within input before after allowed r promised file (record { short = short; roomy = roomy; modest = modest; read = read }))
+  read-near (refused number place) read short roomy modest is = omega (arith, ap (λ (q : Reply). q .place) is, refused-place input number place read)
+
   -- whatever the call, the reply's numbers are small
   pub reply-limits : Limited r
   reply-limits =
       subst Limited (sym (promised .answered .reply))
-      (of-every-reply input (length before) allowed (λ g. Limited (told g))
-      (λ number low high. record { place = omega arith; splits = omega arith; deadEnds = omega arith; none = λ e. absurd (omega arith) })
-      (λ found read short roomy modest. read-limited input allowed found read short modest))
+      (of-every-reply input (length before) allowed (λ g. r ≡ told g → Limited (told g))
+      (λ number low high is. record { place = omega arith; splits = omega arith; deadEnds = omega arith; none = λ e. absurd (omega arith) })
+      (λ found read short roomy modest is.
+      let near = read-near found read short roomy modest is in
+      read-limited input allowed found read modest (omega (arith, ap (λ (q : Reply). q .place) is)))
+      (promised .answered .reply))
 
   -- NONE has one dead end more than splits, whatever the call
   pub none-counted : r .number ≡ 1 → r .«dead_ends» ≡ r .splits + 1

@@ -3,4 +3,5 @@ pub mod PromiseLaws
 pub mod ReplyLaws
 pub mod StarredPlanned
 pub mod StartRooms
+pub mod UnmetField
 pub mod Unique

@@ -18,6 +18,7 @@ use Rattle.lists.proofs.BufferLaws.{over-behind}
 use Rattle.steps.specs.Reply as steps
 use Rattle.steps.specs.Special.{special}
 use Rattle.steps.specs.Table.{planned, needed, replyOf}
+use Rattle.steps.proofs.UnmetField.{planned-place, planned-placeless}
 use Rattle.steps.proofs.Demands.{plan-first, plan-exactly, none-exactly, undecided-exactly, splits-bound, special-decides, number-decided}
 use Rattle.searching.specs.declared.reply.Reply.{Reply}
 use Rattle.searching.specs.Answered.{Answered}
@@ -67,6 +68,9 @@ module _ (input before after : List ℕ) (allowed : ℕ) (r : Reply) (bytes : Ev
     none-found : (r .number ≡ 1) ↔ (((a : List ℕ) → Plan file a → ⊥) × (needed file ≤ allowed))
     none-found = rw number-found (none-exactly file within allowed)
 
+    place-found : r .place ≡ given .place
+    place-found = ap (λ (q : Reply). q .place) (found .reply)
+
     undecided-found : (r .number ≡ 2) ↔ (allowed < needed file)
     undecided-found = rw number-found (undecided-exactly file within allowed)
 
@@ -102,6 +106,11 @@ module _ (input before after : List ℕ) (allowed : ℕ) (r : Reply) (bytes : Ev
     plan = plan-found;
     first = first-found;
     none = none-found;
+    place = λ file accepted one none.
+        rw (place-found file accepted) (planned-place file (within file accepted) allowed (sym (number-found file accepted) ∙ one, sym (splits-found file accepted) ∙ none));
+    placeless = λ file accepted other.
+        place-found file accepted
+        ∙ planned-placeless file (within file accepted) allowed (λ now. other (number-found file accepted ∙ now .0, splits-found file accepted ∙ now .1));
     undecided = undecided-found;
     bound = λ file accepted. omega (arith, splits-found file accepted, splits-bound file (within file accepted) allowed);
     ladder = ladder-found;

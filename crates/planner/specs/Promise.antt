@@ -8,7 +8,9 @@ use lib.ListN.{length, getD, take}
 use Rattle.rules.specs.Rules.{File}
 use Rattle.rules.specs.Meaning.{Plan, FirstPlan}
 use Rattle.rules.specs.Reading.{sound, reading}
-use Rattle.steps.specs.Table.{needed, replyOf}
+use Rattle.rules.specs.Writing.{fieldsOf}
+use Rattle.steps.specs.FirstDead.{FirstDead}
+use Rattle.steps.specs.Table.{startOf, needed, replyOf}
 use Rattle.steps.specs.Special.{special}
 use Rattle.searching.specs.declared.reply.Reply.{Reply}
 use Rattle.searching.specs.Answered.{Answered}
@@ -35,6 +37,9 @@ pub record Planned (input before after : List ℕ) (allowed : ℕ) (r : Reply) :
   pub first : (file : File) → Accepted input before allowed file → r .number ≡ 0 → FirstPlan file (take (file .v) after)
   -- NONE exactly if there is none and the needed splits are allowed.
   pub none : (file : File) → Accepted input before allowed file → (r .number ≡ 1) ↔ (((a : List ℕ) → Plan file a → ⊥) × (needed file ≤ allowed))
+  -- A NONE with no split carries the place of the field first found dead (R-3), and every other reply to an accepted call has place 0.
+  pub place : (file : File) → Accepted input before allowed file → r .number ≡ 1 → r .splits ≡ 0 → FirstDead (fieldsOf file) (startOf file) (r .place)
+  pub placeless : (file : File) → Accepted input before allowed file → ((r .number ≡ 1) × (r .splits ≡ 0) → ⊥) → r .place ≡ 0
   -- UNDECIDED exactly if more splits are needed than were allowed.
   pub undecided : (file : File) → Accepted input before allowed file → (r .number ≡ 2) ↔ (allowed < needed file)
   -- Demand 3. Splits never exceed n ^ v - 1.

@@ -1,4 +1,3 @@
-pub mod ReasonTold
 pub mod RowLaws
 pub mod Unique
 pub mod WordExamples

@@ -1,9 +1,8 @@
--- Examples of refusals in words, computed. Assumes nothing.
+-- Examples of replies in words, computed. Assumes nothing.
 use mathlib.Core.Path.{_≡_, refl}
-use mathlib.Core.List.{[], _∷_}
-use Rattle.rules.specs.Reading.{tagOf, lengthAt, headOf, contentOf, lengthFits, limitsFit, headerBodyFault, headerFault, readFields, reading}
+use mathlib.Core.List.{[]}
 use Rattle.texts.specs.Bytes.{bytesOf, digits, decimal, newline}
-use Rattle.reasons.specs.Words.{faults, faultOf, placeOf, wordsOf, wordsRead, reasonOf}
+use Rattle.reasons.specs.Words.{faults, faultOf, placeOf, wordsOf, unmetOf, reasonOf}
 
 -- a refusal in words, with the place of its field
 pub example-words : wordsOf 19 13 ≡ bytesOf "field at byte 13: a position that is 0 or above the number of channels\n"
@@ -15,7 +14,12 @@ pub example-words-start : wordsOf 14 0 ≡ bytesOf "the input is empty, or its f
 unfolding wordsOf placeOf faultOf faults newline decimal digits bytesOf
 example-words-start = refl
 
--- the words for an empty input, and none for a header alone
-pub example-reasons : (reasonOf [] ≡ wordsOf 14 0) × (reasonOf (1 ∷ 0 ∷ 2 ∷ 2 ∷ 3 ∷ []) ≡ [])
-unfolding reasonOf wordsRead tagOf lengthAt headOf contentOf lengthFits limitsFit headerBodyFault headerFault readFields reading
-example-reasons = (refl, refl)
+-- a NONE with a place, as R-3's own example has it, and one without
+pub example-unmet : (reasonOf 1 29 ≡ bytesOf "the field at byte 29 cannot be met by what the rules leave open\n") × (reasonOf 1 0 ≡ [])
+unfolding reasonOf unmetOf newline decimal digits bytesOf
+example-unmet = (refl, refl)
+
+-- a plan has no words, and a refusal its own
+pub example-reasons : (reasonOf 0 0 ≡ []) × (reasonOf 2 0 ≡ []) × (reasonOf 14 0 ≡ wordsOf 14 0)
+unfolding reasonOf
+example-reasons = (refl, refl, refl)

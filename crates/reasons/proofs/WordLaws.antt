@@ -1,22 +1,22 @@
--- Laws of a refusal in words: its parts by number, how many bytes they have, and the words for an input. Assumes nothing.
-use mathlib.Core.Path.{_≡_, sym, ap}
+-- Laws of a reply in words: the parts of a refusal by number, how many bytes they have, and the words for a reply. Assumes nothing.
+use mathlib.Core.Path.{_≡_, sym}
 use mathlib.Core.Bool.{Bool, true, false, cond}
 use mathlib.Core.List.{List, [], _∷_, _++_}
 use Prim.Native.Nat.{ℕ, _+_, _-_, _≤_, _<_}
 use native.Mathlib.Omega.{arith}
 use lib.Dec.{ltb, eqb}
 use lib.ListN.{length, getD, take, drop, length-append, List·getD-eq-default}
-use borrow.Author.Tests.{lt-ltb, le-ltb, ne-eqb}
-use Rattle.rules.specs.Reading.{Reading, reading}
-use Rattle.sound.specs.declared.check.Checked.the-variants.{Sound, Refused}
-use Rattle.sound.specs.Checked.{checkedOf}
-use Rattle.sound.proofs.CheckedLaws.{checked-refused, checked-sound}
+use borrow.Author.Tests.{lt-ltb, le-ltb, eq-eqb, ne-eqb}
 use Rattle.texts.specs.Bytes.{bytesOf, decimal, newline}
 use Rattle.texts.proofs.DigitLaws.{decimal-length}
-use Rattle.reasons.specs.Words.{faults, faultOf, placeOf, wordsOf, wordsRead, reasonOf}
+use Rattle.reasons.specs.Words.{faults, faultOf, around, placeOf, wordsOf, unmetOf, reasonOf}
 use Rattle.reasons.proofs.RowLaws.{joined, word-length, cut-at, rises-at}
 
 -- ---- the place
+
+-- a place with words around it has at most 20 bytes more than these
+around-length : (front : List ℕ) (place : ℕ) (back : List ℕ) → length (around front place back) ≤ length front + 20 + length back
+around-length front place back = omega (arith, length-append front (decimal place ++ back), length-append (decimal place) back, decimal-length place)
 
 -- below 13 the place is no field's
 pub place-below : (number place : ℕ) → number < 13 → placeOf number place ≡ []
@@ -29,7 +29,7 @@ unfolding placeOf
 place-start number place e = rw e
 
 -- at any other number it is named
-pub place-field : (number place : ℕ) → 13 ≤ number → (number ≡ 14 → ⊥) → placeOf number place ≡ bytesOf "field at byte " ++ (decimal place ++ bytesOf ": ")
+pub place-field : (number place : ℕ) → 13 ≤ number → (number ≡ 14 → ⊥) → placeOf number place ≡ around (bytesOf "field at byte ") place (bytesOf ": ")
 unfolding placeOf
 place-field number place le ne = simp (le-ltb number 13 le, ne-eqb number 14 ne)
 
@@ -38,11 +38,10 @@ place-length : (number place : ℕ) → length (placeOf number place) ≤ 36
 unfolding placeOf bytesOf
 place-length number place = by-number (ltb number 13) (eqb number 14)
   where
-    by-number : (below start : Bool) → length (cond below [] (cond start [] (bytesOf "field at byte " ++ (decimal place ++ bytesOf ": ")))) ≤ 36
+    by-number : (below start : Bool) → length (cond below [] (cond start [] (around (bytesOf "field at byte ") place (bytesOf ": ")))) ≤ 36
     by-number true start = omega arith
     by-number false true = omega arith
-    by-number false false =
-        omega (arith, length-append (bytesOf "field at byte ") (decimal place ++ bytesOf ": "), length-append (decimal place) (bytesOf ": "), decimal-length place)
+    by-number false false = omega (arith, around-length (bytesOf "field at byte ") place (bytesOf ": "))
 
 -- ---- what is wrong
 
@@ -86,26 +85,33 @@ words-fit number place =
     let fault = faultOf number in
     omega (arith, length-append (placeOf number place) (fault ++ newline), length-append fault newline, place-length number place, fault-length number)
 
--- ---- the words for an input
+-- ---- the words for a reply
 
--- an input that is too long
-pub reason-long : (input : List ℕ) → 32768 < length input → reasonOf input ≡ wordsOf 10 0
+-- a NONE without a place has none
+pub unmet-none : (place : ℕ) → place ≡ 0 → unmetOf place ≡ []
+unfolding unmetOf
+unmet-none place e = simp (eq-eqb place 0 e)
+
+-- a NONE with a place names it, in a line that has room
+pub unmet-named : (place : ℕ) → (place ≡ 0 → ⊥) → unmetOf place ≡ around (bytesOf "the field at byte ") place (bytesOf " cannot be met by what the rules leave open\n")
+unfolding unmetOf
+unmet-named place ne = simp (ne-eqb place 0 ne)
+
+pub unmet-fits : (place : ℕ) → length (around (bytesOf "the field at byte ") place (bytesOf " cannot be met by what the rules leave open\n")) ≤ 2048
+unfolding bytesOf
+unmet-fits place = omega (arith, around-length (bytesOf "the field at byte ") place (bytesOf " cannot be met by what the rules leave open\n"))
+
+-- NONE is 1
+pub reason-none : (number place : ℕ) → number ≡ 1 → reasonOf number place ≡ unmetOf place
 unfolding reasonOf
-reason-long input lt = simp (lt-ltb 32768 (length input) lt)
+reason-none number place e = simp (eq-eqb number 1 e)
 
--- any other
-pub reason-read : (input : List ℕ) → length input ≤ 32768 → reasonOf input ≡ wordsRead (reading input)
+-- the words of a refusal, which is 10 or more
+pub reason-refused : (number place : ℕ) → 10 ≤ number → reasonOf number place ≡ wordsOf number place
 unfolding reasonOf
-reason-read input le = simp (le-ltb 32768 (length input) le)
+reason-refused number place le = simp (ne-eqb number 1 (λ e. omega arith), le-ltb number 10 le)
 
--- ---- what a check tells
-
--- the words for a file that a check refuses
-pub words-refused : (r : Reading) (number place : ℕ) → checkedOf r ≡ Refused number place → wordsRead r ≡ wordsOf number place
-unfolding wordsRead
-words-refused r number place e = ap wordsRead (checked-refused r number place e)
-
--- a file that a check finds sound has none
-pub words-sound : (r : Reading) (v n : ℕ) → checkedOf r ≡ Sound v n → wordsRead r ≡ []
-unfolding wordsRead
-words-sound r v n e = ap wordsRead (checked-sound r v n e .0)
+-- any other reply has none
+pub reason-other : (number place : ℕ) → (number ≡ 1 → ⊥) → number < 10 → reasonOf number place ≡ []
+unfolding reasonOf
+reason-other number place ne lt = simp (ne-eqb number 1 ne, lt-ltb number 10 lt)

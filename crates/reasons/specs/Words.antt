@@ -1,11 +1,10 @@
--- A refusal in words: where it stands and what is wrong. The contracts of `src/lib.rt` cite these. Assumes nothing.
+-- A reply in words: where a refusal stands and what is wrong, and which field cannot be met (R-3). The contracts of `src/lib.rt` cite these. Assumes nothing.
 use mathlib.Core.Path.{_≡_}
 use mathlib.Core.Bool.{cond}
 use mathlib.Core.List.{List, [], _∷_, _++_}
 use Prim.Native.Nat.{ℕ, _-_}
 use lib.Dec.{ltb, eqb}
-use lib.ListN.{length, getD}
-use Rattle.rules.specs.Reading.{Reading, sound, refused, reading}
+use lib.ListN.{getD}
 use Rattle.texts.specs.declared.Text.{Text}
 use Rattle.texts.specs.Bytes.{bytesOf, decimal, newline}
 use Rattle.texts.specs.Grown.{lineOf}
@@ -30,26 +29,29 @@ faults =
 unfoldable pub faultOf : ℕ → List ℕ
 faultOf number = cond (ltb number 10) [] (getD faults (number - 10) [])
 
+-- a place with words around it
+abbrev pub around : List ℕ → ℕ → List ℕ → List ℕ
+around front place back = front ++ (decimal place ++ back)
+
 -- where it stands: the offset of the field's tag byte; nothing where the place is no field's, as at 10 to 12 and 14
 unfoldable pub placeOf : ℕ → ℕ → List ℕ
 placeOf number place =
     cond (ltb number 13) []
     (cond (eqb number 14) []
-    (bytesOf "field at byte " ++ (decimal place ++ bytesOf ": ")))
+    (around (bytesOf "field at byte ") place (bytesOf ": ")))
 
 -- a refusal in words, as a line
 unfoldable pub wordsOf : ℕ → ℕ → List ℕ
 wordsOf number place = placeOf number place ++ (faultOf number ++ newline)
 
--- the words for a file that was read: those of its refusal, and none for a sound file
-unfoldable pub wordsRead : Reading → List ℕ
-wordsRead (refused number place) = wordsOf number place
-wordsRead (sound file) = []
+-- a NONE in words, as a line, where it has a place: the field there cannot be met; nothing where it has none
+unfoldable pub unmetOf : ℕ → List ℕ
+unmetOf place = cond (eqb place 0) [] (around (bytesOf "the field at byte ") place (bytesOf " cannot be met by what the rules leave open\n"))
 
--- the words for an input: 10 comes before what the file has
-unfoldable pub reasonOf : List ℕ → List ℕ
-reasonOf input = cond (ltb 32768 (length input)) (wordsOf 10 0) (wordsRead (reading input))
+-- the words for a reply, by its number and place: those of a NONE, those of a refusal, which is 10 or more, and nothing for any other
+unfoldable pub reasonOf : ℕ → ℕ → List ℕ
+reasonOf number place = cond (eqb number 1) (unmetOf place) (cond (ltb number 10) [] (wordsOf number place))
 
--- the text is the words for the input
-abbrev pub Reasoned : List ℕ → Text → Type 0
-Reasoned input text = text ≡ lineOf (reasonOf input)
+-- the text is the words for the reply
+abbrev pub Reasoned : ℕ → ℕ → Text → Type 0
+Reasoned number place text = text ≡ lineOf (reasonOf number place)

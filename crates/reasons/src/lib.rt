@@ -1,11 +1,10 @@
-// A refusal in words, for people: where it stands in the file and what is wrong there. The contracts
-// cite specs/Words.antt.
+// A reply in words, for people: where a refusal stands in the file and what is wrong there, and which
+// field cannot be met where there is no plan. The contracts cite specs/Words.antt.
 ghost use mathlib.Core.Path.{_≡_};
 ghost use Rattle.texts.specs.Grown.{lineOf};
 ghost use Rattle.texts.specs.Promise.{Grows};
-ghost use Rattle.reasons.specs.Words.{faultOf, placeOf, wordsOf, Reasoned};
-use sound::check::Checked;
-use sound::check::check;
+ghost use Rattle.reasons.specs.Words.{around, faultOf, placeOf, wordsOf, unmetOf, Reasoned};
+use searching::reply::Reply;
 use texts::Text;
 
 // What is wrong at 10 to 20, in turn, one behind the other.
@@ -25,6 +24,13 @@ const FAULTS: [u8; 504] = *b"\
 // Where each begins, and where the last ends.
 const STARTS: [usize; 12] = [0, 36, 78, 115, 198, 252, 267, 290, 324, 407, 459, 504];
 
+// A place with words around it more.
+fn around(text: Text, front: &[u8], place: usize, back: &[u8]) -> Text
+    ensures { λ r. ⌜ Grows text (around (now (front .entry)) place (now (back .entry))) r ⌝ }
+{
+    text.word(front).number(place as u64).word(back)
+}
+
 // The place of a refusal more, where it is a field's.
 fn placed(text: Text, number: u32, place: usize) -> Text
     ensures { λ r. ⌜ Grows text (placeOf number place) r ⌝ }
@@ -35,9 +41,7 @@ fn placed(text: Text, number: u32, place: usize) -> Text
     if number == 14 {
         return text;
     }
-    text.word(b"field at byte ")
-        .number(place as u64)
-        .word(b": ")
+    around(text, b"field at byte ", place, b": ")
 }
 
 // What is wrong more, by 01's number.
@@ -64,16 +68,31 @@ fn words(number: u32, place: usize) -> Text
     fault(placed(Text::new(), number, place), number).byte(10)
 }
 
-// Why the program refuses an input, as a line of words; no text where it does not refuse it.
-pub fn reason(input: &[u8]) -> Text
-    ensures { λ r. ⌜ Reasoned (now (input .entry)) r ⌝ }
+// The line of a NONE in words: which field cannot be met; no text where it has no place.
+fn unmet(place: usize) -> Text
+    ensures { λ r. ⌜ r ≡ lineOf (unmetOf place) ⌝ }
 {
-    if 32768 < input.len() {
-        return words(10, 0);
+    if place == 0 {
+        return Text::new();
     }
-    let checked = check(input);
-    match checked {
-        Checked::Refused { number, place } => words(number, place),
-        Checked::Sound { .. } => Text::new(),
+    around(
+        Text::new(),
+        b"the field at byte ",
+        place,
+        b" cannot be met by what the rules leave open\n",
+    )
+}
+
+// What is said of a reply with this number and place, as a line of words: why it refuses, or which field
+// cannot be met; no text where there is nothing to say.
+pub fn reason(number: u32, place: usize) -> Text
+    ensures { λ r. ⌜ Reasoned number place r ⌝ }
+{
+    if number == Reply::NONE {
+        return unmet(place);
     }
+    if number < 10 {
+        return Text::new();
+    }
+    words(number, place)
 }

@@ -2,4 +2,5 @@ pub mod Examples
 pub mod FrameLaws
 pub mod PlaceLaws
 pub mod RoundTrip
+pub mod UpToLaws
 pub mod WrittenLaws

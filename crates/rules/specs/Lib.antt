@@ -3,6 +3,7 @@ pub mod Reading
 pub mod Meaning
 pub mod Parts
 pub mod Writing
+pub mod UpTo
 pub mod Promise
 pub mod Contents
 pub mod Sound

@@ -1,10 +1,11 @@
--- Sound inputs: bytes that are a file, and the fields of that file. Assumes nothing.
-use Prim.Native.Nat.{ℕ}
+-- Sound inputs: bytes that are a file, and the fields of that file, each where it stands. Assumes nothing.
+use Prim.Native.Nat.{ℕ, _≤_, _<_}
 use mathlib.Core.Path.{_≡_}
 use mathlib.Core.List.{List, []}
+use lib.ListN.{length, getD, drop}
 use Rattle.rules.specs.Rules.{Field, File}
-use Rattle.rules.specs.Reading.{Reading, sound, refused, reading}
-use Rattle.rules.specs.Writing.{fieldsOf}
+use Rattle.rules.specs.Reading.{Reading, sound, refused, ruleAt, reading}
+use Rattle.rules.specs.Writing.{tagByte, fieldsOf}
 
 -- the file that was read, and a file with nothing in it where the bytes were refused
 unfoldable pub fileOf : Reading → File
@@ -19,3 +20,10 @@ fieldsIn s = fieldsOf (fileOf (reading s))
 pub record SoundInput (s : List ℕ) (v : ℕ) : Type 0 where
   pub read : reading s ≡ sound (fileOf (reading s))
   pub positions : fileOf (reading s) .v ≡ v
+
+-- a field stands in the bytes at its place: behind the header, within the bytes, the tag byte of its rule is there, and from there on its rule is read
+pub record StandsIn (s : List ℕ) (f : Field) : Type 0 where
+  pub behind : 5 ≤ f .place
+  pub within : f .place < length s
+  pub tag : getD s (f .place) 0 ≡ tagByte (f .rule)
+  pub rule : ruleAt (drop (f .place) s) ≡ f .rule

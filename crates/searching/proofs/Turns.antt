@@ -116,7 +116,7 @@ module _ (given : Given) where
 
   -- ---- the ends of a box that is not split
 
-  pub ends-dead : (place : ℕ) → shrunk fields box ≡ dead place → {r : Reply} → r ≡ told (none s (d + 1)) → Ends r (given .before)
+  pub ends-dead : (place : ℕ) → shrunk fields box ≡ dead place → {r : Reply} → r ≡ told (none place s (d + 1)) → Ends r (given .before)
   ends-dead place e q = answers (one-turn ∙ rw e refl) (nothing-written q refl)
 
   -- the smallest values of a shrunk box fit into bytes
@@ -147,7 +147,7 @@ module _ (given : Given) where
         go false e = e
 
     pub ends-settled : v ≤ i → {values after : List ℕ} → values ≡ smallestOf (take v saved) ++ replicate (64 - v) 0
-        → after ≡ over (take v values) (given .before) → {r : Reply} → r ≡ told (ended 0 s d) → Ends r after
+        → after ≡ over (take v values) (given .before) → {r : Reply} → r ≡ told (ended 0 0 s d) → Ends r after
     unfolding smallestOf
     ends-settled l {values} {after} e m q =
         let long : length (smallestOf (take v saved)) ≡ v = length-map (take v saved) smallest ∙ kept .length-v in

@@ -4,10 +4,13 @@ use mathlib.Core.List.{List}
 use Prim.Native.Nat.{ℕ}
 use Rattle.sets.proofs.Unique.{one-result}
 use Rattle.searching.specs.declared.reply.Reply.{Reply}
-use Rattle.searching.specs.Promise.{Ends, Refuses, Searches}
+use Rattle.searching.specs.Promise.{Ends, NoneAt, Refuses, Searches}
 
 pub ended-unique : (number splits deadEnds : ℕ) {r s : Reply} → Ends number splits deadEnds r → Ends number splits deadEnds s → r ≡ s
 ended-unique number splits deadEnds p q = one-result p q
+
+pub none-unique : (place splits deadEnds : ℕ) {r s : Reply} → NoneAt place splits deadEnds r → NoneAt place splits deadEnds s → r ≡ s
+none-unique place splits deadEnds p q = one-result p q
 
 pub refused-unique : (number place : ℕ) {r s : Reply} → Refuses number place r → Refuses number place s → r ≡ s
 refused-unique number place p q = one-result p q

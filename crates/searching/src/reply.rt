@@ -1,6 +1,6 @@
 // A reply as 01 has it: its number, its place, its splits and its dead ends. The contracts cite
 // specs/Promise.antt.
-ghost use Rattle.searching.specs.Promise.{Ends, Refuses};
+ghost use Rattle.searching.specs.Promise.{Ends, NoneAt, Refuses};
 
 // A reply. The values of a plan are in the caller's buffer.
 pub struct Reply {
@@ -18,13 +18,26 @@ impl Reply {
 
     pub const UNDECIDED: u32 = 2;
 
-    // The reply at the end of a search: its place is 0.
+    // PLAN or UNDECIDED at the end of a search: its place is 0.
     pub fn ended(number: u32, splits: u64, dead_ends: u64) -> Reply
         ensures { λ r. ⌜ Ends number splits «dead_ends» r ⌝ }
     {
         Reply {
             number,
             place: 0,
+            splits,
+            dead_ends,
+        }
+    }
+
+    // NONE at the end of a search, where the field at this place was found dead last: with no split it
+    // carries the place, and with a split place 0.
+    pub fn none(place: usize, splits: u64, dead_ends: u64) -> Reply
+        ensures { λ r. ⌜ NoneAt place splits «dead_ends» r ⌝ }
+    {
+        Reply {
+            number: Reply::NONE,
+            place: if splits == 0 { place } else { 0 },
             splits,
             dead_ends,
         }

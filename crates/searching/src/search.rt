@@ -51,8 +51,8 @@ pub fn search(
     let shrunk = shrink(input, v, rooms);
     let verdict = shrunk.verdict;
     let saved = shrunk.rooms;
-    if let Verdict::Dead(_) = verdict {
-        return Reply::ended(Reply::NONE, splits, dead_ends + 1);
+    if let Verdict::Dead(place) = verdict {
+        return Reply::none(place, splits, dead_ends + 1);
     }
     let i = choose(input, v, &saved);
     if v <= i {

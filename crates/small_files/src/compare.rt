@@ -8,6 +8,7 @@ use super::meaning::Found;
 use super::meaning::assignments;
 use super::meaning::first;
 use super::meaning::meets;
+use super::reading::is_field;
 use super::reading::positions;
 use super::reading::sound;
 use super::reading::values;
@@ -21,37 +22,49 @@ pub const MOST: u64 = 1_000_000;
 // The allowance for a file with more assignments than are gone through.
 const FEW: u64 = 30;
 
-// Whether a reply has a number, place 0, and these bytes after the call.
-fn is(seen: Seen, number: usize, bytes: &[u8; 68]) -> bool {
+// Whether a reply has a number and a place, and these bytes after the call.
+fn is(seen: Seen, number: usize, place: usize, bytes: &[u8; 68]) -> bool {
     let left = seen.bytes;
-    seen.number == number && seen.place == 0 && same(&left, bytes)
+    seen.number == number && seen.place == place && same(&left, bytes)
 }
 
 // Whether the reply is the plan of an assignment, with no more dead ends than splits.
 fn is_plan(seen: Seen, assignment: &[u8; 68]) -> bool {
-    is(seen, 0, assignment) && seen.dead_ends <= seen.splits
+    is(seen, 0, 0, assignment) && seen.dead_ends <= seen.splits
 }
 
-// Whether the reply is NONE, with nothing written, and with one dead end more than splits: a split
-// makes two boxes of one, and at the end all boxes are dead.
-fn is_none(seen: Seen) -> bool {
-    is(seen, 1, &blank()) && seen.dead_ends == std::num::wrapping_add_u64(seen.splits, 1)
+// Whether a NONE to a file has its place: with no split that of a field, and else 0 (02, R-3). Which
+// field it is, is in the checksum.
+fn has_place(seen: Seen, file: &[u8]) -> bool {
+    if seen.splits == 0 {
+        is_field(file, seen.place)
+    } else {
+        seen.place == 0
+    }
+}
+
+// Whether the reply to a file is NONE, with nothing written, and with one dead end more than splits: a
+// split makes two boxes of one, and at the end all boxes are dead.
+fn is_none(seen: Seen, file: &[u8]) -> bool {
+    is(seen, 1, seen.place, &blank())
+        && has_place(seen, file)
+        && seen.dead_ends == std::num::wrapping_add_u64(seen.splits, 1)
 }
 
 // Whether the reply is UNDECIDED, with all of the allowance used and nothing written.
 pub(crate) fn is_undecided(seen: Seen, allowance: u64) -> bool {
-    is(seen, 2, &blank()) && seen.splits == allowance && seen.dead_ends <= allowance
+    is(seen, 2, 0, &blank()) && seen.splits == allowance && seen.dead_ends <= allowance
 }
 
 // Whether the reply is this refusal at place 0, with nothing written.
 pub(crate) fn is_refusal(seen: Seen, number: usize) -> bool {
-    is(seen, number, &blank()) && seen.splits == 0 && seen.dead_ends == 0
+    is(seen, number, 0, &blank()) && seen.splits == 0 && seen.dead_ends == 0
 }
 
 // Whether two replies agree in all that was seen of them.
 pub(crate) fn agree(a: Seen, b: Seen) -> bool {
     let left = b.bytes;
-    is(a, b.number, &left) && a.splits == b.splits && a.dead_ends == b.dead_ends
+    is(a, b.number, b.place, &left) && a.splits == b.splits && a.dead_ends == b.dead_ends
 }
 
 // Whether the reply is a refusal from 13 to 20, with a place in a file of a length and with nothing
@@ -71,13 +84,13 @@ fn unsound(tally: Tally, file: &[u8]) -> Tally {
     expect(asked, right, b"not refused:", file)
 }
 
-// Whether the reply is what the enumeration found.
-fn is_found(seen: Seen, right: Found) -> bool {
+// Whether the reply to a file is what the enumeration found.
+fn is_found(seen: Seen, right: Found, file: &[u8]) -> bool {
     let assignment = right.assignment;
     if right.any {
         is_plan(seen, &assignment)
     } else {
-        is_none(seen)
+        is_none(seen, file)
     }
 }
 
@@ -88,7 +101,7 @@ fn enumerated(tally: Tally, file: &[u8], v: usize, n: usize) -> Tally
 {
     let right = first(file, v, n);
     let asked = ask(tally, file, 64, MOST);
-    let agrees = is_found(asked.seen, right) && asked.seen.splits < assignments(v, n);
+    let agrees = is_found(asked.seen, right, file) && asked.seen.splits < assignments(v, n);
     expect(asked, agrees, b"not as enumerated:", file)
 }
 
@@ -96,7 +109,7 @@ fn enumerated(tally: Tally, file: &[u8], v: usize, n: usize) -> Tally
 // used.
 fn is_possible(seen: Seen, file: &[u8], v: usize, n: usize) -> bool {
     let left = seen.bytes;
-    if is_none(seen) || is_undecided(seen, FEW) {
+    if is_none(seen, file) || is_undecided(seen, FEW) {
         return true;
     }
     is_plan(seen, &left) && is_assignment(&left, v, n) && meets(file, &left, n)

@@ -43,6 +43,18 @@ pub(crate) fn next_field(file: &[u8], at: usize) -> usize
     at + size
 }
 
+// Whether a field behind the header starts at a place.
+pub(crate) fn is_field(file: &[u8], place: usize) -> bool {
+    let mut at = 5;
+    while at < file.len() {
+        if at == place {
+            return true;
+        }
+        at = next_field(file, at);
+    }
+    false
+}
+
 // Whether a value is in the set whose four bytes stand at the front.
 pub(crate) fn contains(set: &[u8], value: usize) -> bool {
     if value < 1 {

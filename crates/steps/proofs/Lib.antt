@@ -5,3 +5,5 @@ pub mod Search
 pub mod Special
 pub mod StarredCases
 pub mod Step4Examples
+pub mod UnmetExamples
+pub mod UnmetField

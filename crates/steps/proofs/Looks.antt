@@ -1,4 +1,6 @@
 pub mod ClauseLaws
+pub mod DeadField
+pub mod FirstRound
 pub mod FittingRules
 pub mod Idle
 pub mod InTurn

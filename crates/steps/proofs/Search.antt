@@ -3,6 +3,7 @@ pub mod AlwaysSplits
 pub mod Bounds
 pub mod Chosen
 pub mod Counts
+pub mod DeadPlace
 pub mod Decided
 pub mod OldStep
 pub mod Says

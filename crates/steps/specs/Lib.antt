@@ -1,6 +1,7 @@
 pub mod Boxes
 pub mod Shrinking
 pub mod Reply
+pub mod FirstDead
 pub mod Search
 pub mod OldStep
 pub mod Table

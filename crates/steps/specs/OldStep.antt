@@ -17,7 +17,7 @@ lowestWide box = lowest (wide box) (length box)
 unfoldable pub exploreWide : (List ℕ → ℕ → ℕ → Reply) → ℕ → List Field → List ℕ → ℕ → ℕ → Reply
 exploreWide deeper zero fields box s d = deeper box s d
 exploreWide deeper (suc k) fields box s d =
-    ifAlive (shrunk fields box) (λ _. none s (d + 1)) λ inner.
+    ifAlive (shrunk fields box) (λ place. none place s (d + 1)) λ inner.
     ifTest (settled fields inner) (plan (smallestOf inner) s d) λ _.
     ifNone (exploreWide deeper k fields (firstHalf (lowestWide inner) inner) (s + 1) d) λ s′ d′.
     exploreWide deeper k fields (otherHalf (lowestWide inner) inner) s′ d′

@@ -1,6 +1,8 @@
 -- A reply: its number by 01's table, its place, its splits and dead ends, and the values that it writes. Assumes nothing.
 use Prim.Native.Nat.{ℕ}
 use mathlib.Core.List.{List, []}
+use mathlib.Core.Bool.{cond}
+use lib.Dec.{eqb}
 
 -- what every call is answered with; only PLAN has values
 pub record Reply : Type 0 where
@@ -15,16 +17,16 @@ abbrev pub plan : List ℕ → ℕ → ℕ → Reply
 plan values splits deadEnds = record { number = 0; place = 0; splits = splits; deadEnds = deadEnds; values = values }
 
 -- every other end of a search writes nothing
-abbrev pub ended : ℕ → ℕ → ℕ → Reply
-ended number splits deadEnds = record { number = number; place = 0; splits = splits; deadEnds = deadEnds; values = [] }
+abbrev pub ended : ℕ → ℕ → ℕ → ℕ → Reply
+ended number place splits deadEnds = record { number = number; place = place; splits = splits; deadEnds = deadEnds; values = [] }
 
--- NONE
-abbrev pub none : ℕ → ℕ → Reply
-none splits deadEnds = ended 1 splits deadEnds
+-- NONE, 1: with no split it carries the place of the field found dead, and with a split place 0 (R-3)
+abbrev pub none : ℕ → ℕ → ℕ → Reply
+none place splits deadEnds = ended 1 (cond (eqb splits 0) place 0) splits deadEnds
 
--- UNDECIDED
+-- UNDECIDED, 2
 abbrev pub undecided : ℕ → ℕ → Reply
-undecided splits deadEnds = ended 2 splits deadEnds
+undecided splits deadEnds = ended 2 0 splits deadEnds
 
 -- a refusal: zero splits and dead ends, nothing written
 abbrev pub refusal : ℕ → ℕ → Reply

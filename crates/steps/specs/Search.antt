@@ -26,7 +26,7 @@ ifNone first later = elim (eqb (first .number) 1) [ true ↦ later (first .split
 -- the halves.
 abbrev pub turn : List Field → (ℕ → Bool) → List ℕ → ℕ → ℕ → (List ℕ → ℕ → ℕ → Reply) → Reply
 turn fields spent box s d again =
-    ifAlive (shrunk fields box) (λ _. none s (d + 1)) λ inner.
+    ifAlive (shrunk fields box) (λ place. none place s (d + 1)) λ inner.
     ifTest (settled fields inner) (plan (smallestOf inner) s d) λ _.
     ifTest (spent s) (undecided s d) λ _.
     ifNone (again (firstHalf (chosen fields inner) inner) (s + 1) d) λ s′ d′.

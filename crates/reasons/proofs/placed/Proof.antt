@@ -1,10 +1,9 @@
 -- `reasons::placed` meets its contract: the place in words where it is a field's. Assumes nothing.
 use mathlib.Core.Path.{refl, sym, ap, _∙_}
-use mathlib.Core.List.{_++_, append-assoc}
 use borrow.Author.Needs.{needs}
-use Rattle.texts.specs.Bytes.{bytesOf, decimal}
+use Rattle.texts.specs.Bytes.{bytesOf}
 use Rattle.texts.specs.Grown.{grown}
-use Rattle.texts.proofs.GrownLaws.{grown-all, grown-more}
+use Rattle.texts.proofs.GrownLaws.{grown-all}
 use Rattle.reasons.proofs.WordLaws.{place-below, place-start, place-field}
 use Rattle.reasons.proofs.placed.Statement.{statement}
 use Rattle.reasons.proofs.placed.Tie as tie
@@ -22,13 +21,9 @@ returns-2 c =
 returns-3 : tie.Need-returns-3
 unfolding bytesOf
 returns-3 c =
-    let word = c .before .before .before in
-    let start = word .before .before .before .before in
+    let start = c .before .before .before .before .before in
     let a = start .args in
-    let one = grown-more (a .text) (bytesOf "field at byte ") (decimal (a .place)) (word .word .ensures) (c .before .before .number .ensures) in
-    grown-more (a .text) (bytesOf "field at byte " ++ decimal (a .place)) (bytesOf ": ") one (c .word2 .ensures)
-    ∙ ap (grown (a .text)) (append-assoc (bytesOf "field at byte ") (decimal (a .place)) (bytesOf ": ")
-    ∙ sym (place-field (a .number) (a .place) (word .before .before .before .if1 .left) (word .before .before .if2 .left)))
+    c .around .ensures ∙ ap (grown (a .text)) (sym (place-field (a .number) (a .place) (c .before .before .before .before .if1 .left) (c .before .before .before .if2 .left)))
 
 pub placed-spec : {M : Type 1} → statement M
 placed-spec =
@@ -37,8 +32,6 @@ placed-spec =
     returns
     returns-2
     (λ c. search needs)
-    (λ c κs. search needs)
-    (λ c κs. search needs)
     (λ c. search needs)
     (λ c κs. search needs)
     returns-3)

@@ -98,7 +98,8 @@ module _ {s : List ℕ} {v at : ℕ} {left : List Field} (walk : Walk s v at lef
       let found = with-rule-sound (ruleAt (drop at s)) _ file (went .1) in
       (found .0, found .1, found .2, went .0)
 
-  field-sound : SoundField v (fileOf (reading s) .n) (drop at s)
+  -- the field that stands there has no fault
+  pub field-sound : SoundField v (fileOf (reading s) .n) (drop at s)
   field-sound = field-fault-none v (fileOf (reading s) .n) (drop at s) .0 (step .3)
 
   field-read : FieldHere s v at left (headOf (drop at s)) (drop (at + 3) s)

@@ -1,11 +1,14 @@
--- An example of a rule file: its bytes are read as the file, and the file is written as the bytes. Assumes nothing.
+-- An example of a rule file: its bytes are read as the file, the file is written as the bytes, and its fields stand where they do. Assumes nothing.
 use mathlib.Core.Path.{_≡_, refl}
 use mathlib.Core.List.{List, [], _∷_, _++_, map}
+use native.Mathlib.Omega.{arith}
 use Prim.Native.Nat.{ℕ}
 use Rattle.sets.specs.Sets.{inRange, onlyIf, full, common, inside}
 use Rattle.rules.specs.Rules.{File, Field, clause, equality}
 use Rattle.rules.specs.Reading.{tagOf, lengthAt, setAt, atomOf, headOf, contentOf, atomsOf, ruleOf, lengthFits, tagFault, bodyFault, headerBodyFault, positionFault, setFault, atomFault, atomsFault, positionsFault, ruleFault, ruleAt, fieldFault, limitsFit, headerFault, sound, sizeOf, readFields, reading}
 use Rattle.rules.specs.Writing.{twoBytes, fourBytes, writtenAtoms, framed, tagByte, contentBytes, writtenRule, writtenRules, written, placed, fieldsOf}
+use Rattle.rules.specs.Sound.{StandsIn}
+use Rattle.rules.specs.UpTo.{fieldsUpTo, upTo}
 
 -- v 2 and n 2; "1 in {} or 1 in {1, 2} or 2 in {2}"; "the values of positions 1 and 1 are {1, 2}"; an empty clause
 pub exampleBytes : List ℕ
@@ -41,3 +44,13 @@ example-written = refl
 pub example-places : map (λ (f : Field). f .place) (fieldsOf exampleFile) ≡ 5 ∷ 23 ∷ 32 ∷ []
 unfolding exampleFile fieldsOf placed writtenRule framed tagByte contentBytes writtenAtoms fourBytes twoBytes
 example-places = refl
+
+-- up to the field at 23 there are the first two rules, up to 22 the first alone, and before the first none
+pub example-up-to : (map tagByte (upTo 23 exampleFile .rules) ≡ 2 ∷ 3 ∷ []) × (map tagByte (upTo 22 exampleFile .rules) ≡ 2 ∷ []) × (upTo 4 exampleFile .rules ≡ [])
+unfolding exampleFile fieldsOf placed writtenRule framed tagByte contentBytes writtenAtoms fourBytes twoBytes fieldsUpTo upTo
+example-up-to = (refl, refl, refl)
+
+-- the empty clause stands in the bytes at 32, where its tag byte is; it does not stand at 33
+pub example-stands : StandsIn exampleBytes (record { place = 32; rule = clause [] }) × (StandsIn exampleBytes (record { place = 33; rule = clause [] }) → ⊥)
+unfolding exampleBytes tagByte ruleAt ruleOf atomsOf contentOf headOf lengthAt tagOf
+example-stands = (record { behind = omega arith; within = omega arith; tag = refl; rule = refl }, λ stands. omega (arith, stands .tag))

@@ -162,7 +162,8 @@ module _ (v n : ℕ) (bytes : List ℕ) (field : SoundField v n bytes) where
   length-of-content =
       length-of-rule (tagOf (headOf bytes .tag)) (headOf bytes .length) (contentOf bytes) (field .tag-fits) (field .length-fits) (field .content-there)
 
-  tag-of-content : tagByte (ruleAt bytes) ≡ headOf bytes .tag
+  -- the tag byte of its rule is the one that stands there
+  pub tag-of-content : tagByte (ruleAt bytes) ≡ headOf bytes .tag
   unfolding ruleAt
   tag-of-content = tag-of-rule (headOf bytes .tag) (headOf bytes .length) (contentOf bytes) (field .tag-fits)
 

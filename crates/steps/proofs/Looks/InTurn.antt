@@ -2,7 +2,7 @@
 use mathlib.Core.Path.{_≡_, refl, sym, ap, _∙_, subst}
 use mathlib.Core.Logic.{_⊎_, inl, inr}
 use mathlib.Core.Bool.{Bool, true, false, _&&_}
-use mathlib.Core.List.{List, [], _∷_}
+use mathlib.Core.List.{List, [], _∷_, _++_}
 use Prim.Native.Nat.{ℕ}
 use native.Mathlib.Omega.{arith}
 use lib.Dec.{T}
@@ -10,7 +10,7 @@ use lib.ListN.{length}
 use Rattle.lists.specs.Lists.{Some, Every}
 use Rattle.steps.specs.Boxes.{BoxInside, Rooms}
 use Rattle.steps.specs.Shrinking.{Look, dead, alive, ifAlive, inTurn, allOf}
-use Rattle.lists.proofs.ListLaws.{some-of-listed, every-at, every-with-some, every-same}
+use Rattle.lists.proofs.ListLaws.{some-of-listed, listed-of-some, every-at, every-with-some, every-same}
 use Rattle.lists.proofs.TestLaws.{both-hold}
 use Rattle.steps.proofs.Looks.SixLaws.{Sound, Inward, Settling, Steady, Monotone, NotLive, Names}
 use Rattle.steps.proofs.Boxes.BoxLaws.{box-inside-length, box-inside-refl, box-inside-trans, box-inside-antisymmetric}
@@ -39,12 +39,12 @@ module _ {A : Type 0} (look : A → List ℕ → Look) where
   -- after a first look that is not dead come the others
   pub in-turn-then : (x : A) (xs : List A) (box b : List ℕ) → look x box ≡ alive b → inTurn look (x ∷ xs) box ≡ inTurn look xs b
   unfolding inTurn
-  in-turn-then x xs box b e = ap (λ (l : Look). ifAlive l (λ p. dead p) λ box′. inTurn look xs box′) e
+  in-turn-then x xs box b e = rw e
 
   -- a first look that is dead ends it
   pub in-turn-dead : (x : A) (xs : List A) (box : List ℕ) (p : ℕ) → look x box ≡ dead p → inTurn look (x ∷ xs) box ≡ dead p
   unfolding inTurn
-  in-turn-dead x xs box p e = ap (λ (l : Look). ifAlive l (λ q. dead q) λ box′. inTurn look xs box′) e
+  in-turn-dead x xs box p e = rw e
 
   -- where the whole is not dead the first look is not
   pub in-turn-first : (x : A) (xs : List A) (box c : List ℕ) → inTurn look (x ∷ xs) box ≡ alive c
@@ -55,15 +55,35 @@ module _ {A : Type 0} (look : A → List ℕ → Look) where
       go (dead p) d = absurd (dead-not-alive (inTurn look (x ∷ xs) box) p c (in-turn-dead x xs box p d) e)
       go (alive b) a = (b, a, sym (in-turn-then x xs box b a) ∙ e)
 
-  -- the looks name the place that each of them names
-  pub in-turn-place : (place : ℕ) → ((x : A) → Names place (look x)) → (xs : List A) → Names place (inTurn look xs)
+  -- after some looks that are not dead come the others, and after some that are, none
+  pub in-turn-append : (xs ys : List A) (box : List ℕ) → inTurn look (xs ++ ys) box ≡ ifAlive (inTurn look xs box) (λ p. dead p) (λ b. inTurn look ys b)
   unfolding inTurn
-  in-turn-place place each [] box p e = absurd (dead-not-alive (alive box) p box e refl)
-  in-turn-place place each (x ∷ xs) box p e = go (in-turn-place place each xs) (look x box) refl
+  in-turn-append [] ys box = refl
+  in-turn-append (x ∷ xs) ys box = go (in-turn-append xs ys) (look x box)
     where
-      go : Names place (inTurn look xs) → (l : Look) → look x box ≡ l → p ≡ place
-      go rest (dead q) d = each x box p (d ∙ sym (in-turn-dead x xs box q d) ∙ e)
-      go rest (alive b) a = rest b p (sym (in-turn-then x xs box b a) ∙ e)
+      After : List A → Look → Look
+      After zs l = ifAlive l (λ p. dead p) λ b. inTurn look zs b
+
+      go : ((b : List ℕ) → inTurn look (xs ++ ys) b ≡ After ys (inTurn look xs b)) → (l : Look) → After (xs ++ ys) l ≡ After ys (After xs l)
+      go rest (dead p) = refl
+      go rest (alive b) = rest b
+
+  -- where the looks are dead, one of them is, at some box
+  pub in-turn-killed : (xs : List A) (box : List ℕ) (p : ℕ) → inTurn look xs box ≡ dead p → Some (λ x. (b : List ℕ) × (look x b ≡ dead p)) xs
+  unfolding inTurn
+  in-turn-killed [] box p e = dead-not-alive (alive box) p box e refl
+  in-turn-killed (x ∷ xs) box p e = go (in-turn-killed xs) (look x box) refl
+    where
+      go : ((b : List ℕ) (q : ℕ) → inTurn look xs b ≡ dead q → Some (λ y. (c : List ℕ) × (look y c ≡ dead q)) xs) → (l : Look) → look x box ≡ l
+          → ((b : List ℕ) × (look x b ≡ dead p)) ⊎ Some (λ y. (b : List ℕ) × (look y b ≡ dead p)) xs
+      go rest (dead q) d = inl (box, d ∙ sym (in-turn-dead x xs box q d) ∙ e)
+      go rest (alive b) a = inr (rest b p (sym (in-turn-then x xs box b a) ∙ e))
+
+  -- so the looks name the place that each of them names
+  pub in-turn-place : (place : ℕ) → ((x : A) → Names place (look x)) → (xs : List A) → Names place (inTurn look xs)
+  in-turn-place place each xs box p e =
+      let found = listed-of-some (λ x. (b : List ℕ) × (look x b ≡ dead p)) xs (in-turn-killed xs box p e) in
+      each (found .0) (found .2 .0) p (found .2 .1)
 
   -- what each look keeps, they keep in turn
   pub in-turn-keeps : (Q : List ℕ → Type 0) → ((x : A) → Keeps Q (look x)) → (xs : List A) → Keeps Q (inTurn look xs)

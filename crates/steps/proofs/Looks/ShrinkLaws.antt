@@ -80,7 +80,7 @@ module _ (fields : List Field) where
   rounds-fixed (went r ne more) c a = rounds-fixed more c a
 
   -- rounds come to one end
-  rounds-once : {l m : Look} {box : List ℕ} → Rounds fields l box → Rounds fields m box → l ≡ m
+  pub rounds-once : {l m : Look} {box : List ℕ} → Rounds fields l box → Rounds fields m box → l ≡ m
   rounds-once (ended p r e) (ended q s d) = cc
   rounds-once (ended p r e) (rested s d) = cc
   rounds-once (ended p r e) (went s ne more) = cc

@@ -17,14 +17,13 @@ use Rattle.steps.proofs.Search.Walk.{walk, searched-walks}
 
 -- what a reply counts beyond the splits s and the dead ends d before it
 pub record Counted (allowed s d : ℕ) (r : Reply) : Type 0 where
-  pub place : r .place ≡ 0
   pub more : s ≤ r .splits
   pub within : r .splits ≤ allowed
   pub fewer : r .deadEnds + s ≤ d + r .splits + 1
   pub none : r .number ≡ 1 → r .deadEnds + s ≡ d + r .splits + 1
   pub others : (r .number ≡ 1 → ⊥) → r .deadEnds + s ≤ d + r .splits
 
-walk-counts : {fields : List Field} {box : List ℕ} (t : Tree fields box) (allowed s d : ℕ) → s ≤ allowed → Counted allowed s d (walk t (leb allowed) s d)
+pub walk-counts : {fields : List Field} {box : List ℕ} (t : Tree fields box) (allowed s d : ℕ) → s ≤ allowed → Counted allowed s d (walk t (leb allowed) s d)
 walk-counts (dies place rooms e) allowed s d h = omega arith
 walk-counts (settles m t) allowed s d h = omega arith
 walk-counts (divides m u at p f o) allowed s d h =
@@ -34,7 +33,6 @@ walk-counts (divides m u at p f o) allowed s d h =
     after-none first (walk o (leb allowed)) (Counted allowed s d)
     (λ e. let g = walk-counts o allowed (first .splits) (first .deadEnds) (c .within) in
     record {
-      place = g .place;
       more = omega arith;
       within = g .within;
       fewer = omega (arith, c .none e);

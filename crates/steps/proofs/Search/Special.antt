@@ -91,7 +91,7 @@ module _ (fields : List Field) where
   SpecialFits v = FieldsFit v fields × T (specialRules v fields)
 
   -- where the box dies in shrinking, there is no plan, at that one dead end and without a split
-  pub special-none : (box : List ℕ) (place : ℕ) → shrunk fields box ≡ dead place → explored fields box ≡ none 0 1
+  pub special-none : (box : List ℕ) (place : ℕ) → shrunk fields box ≡ dead place → explored fields box ≡ none place 0 1
   unfolding explored search
   special-none box place e = rw e
 

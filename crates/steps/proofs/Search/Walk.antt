@@ -15,7 +15,7 @@ use Rattle.steps.proofs.Search.Tree.{Tree, dies, settles, divides, firs
 
 -- the reply by the tree, with a test of the splits so far that says whether the allowance is spent
 abbrev pub walk : {fields : List Field} {box : List ℕ} → Tree fields box → (ℕ → Bool) → ℕ → ℕ → Reply
-walk (dies place rooms e) spent s d = none s (d + 1)
+walk (dies place rooms e) spent s d = none place s (d + 1)
 walk (settles {inner = inner} m t) spent s d = plan (smallestOf inner) s d
 walk (divides m u at p f o) spent s d = split spent s d (walk f spent (s + 1) d) (walk o spent)
 

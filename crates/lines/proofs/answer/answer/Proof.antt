@@ -11,11 +11,13 @@ use Rattle.lines.proofs.answer.answer.Tie as tie
 returns : tie.Need-returns
 returns c =
     let positions = c .before .before in
-    let plan = positions .before .before in
+    let reason = positions .before in
+    let plan = reason .before .before in
     record {
       reply = plan .plan .result;
       after = plan .plan .last .1 .0;
       planned = plan .plan .ensures;
+      said = reason .reason .ensures;
       printed = c .text .ensures ∙ ap (λ (v : ℕ). lineOf (textOf (plan .plan .result) (take v (plan .plan .last .1 .0)))) (positions .positions .ensures);
     }
 
@@ -24,6 +26,7 @@ answer-spec =
     tie.close
     (tie.spec
     (λ c. search needs)
+    (λ c κs. search needs)
     (λ c κs. search needs)
     (λ c κs. search needs)
     (λ c κs. search needs)

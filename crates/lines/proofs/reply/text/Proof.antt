@@ -7,7 +7,7 @@ use Rattle.texts.specs.Bytes.{bytesOf}
 use Rattle.texts.specs.Grown.{lineOf}
 use Rattle.texts.proofs.GrownLaws.{grown-more}
 use Rattle.lines.specs.Text.{textOf}
-use Rattle.lines.proofs.TextLaws.{text-known, text-refused, first-line-fits, plan-fits, text-shown}
+use Rattle.lines.proofs.TextLaws.{text-known, text-refused, first-line-fits, none-fits, plan-fits, text-shown}
 use Rattle.lines.proofs.reply.text.Statement.{statement}
 use Rattle.lines.proofs.reply.text.Tie as tie
 
@@ -25,23 +25,23 @@ returns c =
 returns-2 : tie.Need-returns-2
 unfolding textOf bytesOf
 returns-2 c =
-    let match = c .before .before in
+    let match = c .before in
     let a = match .before .args in
-    text-shown (text-known (a .reply) (take (a .v) (a .values .now)) (match .match .keys2)) (first-line-fits (bytesOf "NONE") _ _ (omega arith)) (c .first-line2 .ensures)
+    text-shown (text-known (a .reply) (take (a .v) (a .values .now)) (match .match .keys2)) (none-fits _ _ _) (c .none-line .ensures)
 
 returns-3 : tie.Need-returns-3
 unfolding textOf bytesOf
 returns-3 c =
     let match = c .before .before in
     let a = match .before .args in
-    text-shown (text-known (a .reply) (take (a .v) (a .values .now)) (match .match .keys3)) (first-line-fits (bytesOf "UNDECIDED") _ _ (omega arith)) (c .first-line3 .ensures)
+    text-shown (text-known (a .reply) (take (a .v) (a .values .now)) (match .match .keys3)) (first-line-fits (bytesOf "UNDECIDED") _ (omega arith) (omega arith)) (c .first-line2 .ensures)
 
 returns-4 : tie.Need-returns-4
 unfolding textOf bytesOf
 returns-4 c =
     let match = c .before .before in
     let a = match .before .args in
-    text-shown (text-refused (a .reply) (take (a .v) (a .values .now)) (omega (arith, match .match .rest))) (first-line-fits (bytesOf "REFUSED") _ _ (omega arith)) (c .first-line4 .ensures)
+    text-shown (text-refused (a .reply) (take (a .v) (a .values .now)) (omega (arith, match .match .rest))) (first-line-fits (bytesOf "REFUSED") _ (omega arith) (omega arith)) (c .first-line3 .ensures)
 
 pub text-spec : {M : Type 1} → statement M
 text-spec =
@@ -52,7 +52,6 @@ text-spec =
     (λ c κs. search needs)
     (λ c κs. search needs)
     -- NONE
-    (λ c. search needs)
     (λ c κs. search needs)
     -- UNDECIDED
     (λ c. search needs)

@@ -20,6 +20,7 @@ use Rattle.splitting.proofs.halves.other_half.Reads as other-half-reads
 use Rattle.splitting.proofs.halves.smallest_values.Reads as smallest-values-reads
 use Rattle.boxes.proofs.shrink.shrink.Reads as shrink-reads
 use Rattle.searching.proofs.Turns.{Given, Saved, Split, Begun, begun-of, shrunk-dead, ends-dead, saved-of, values-small, ends-settled, ends-undecided, ends-first, ends-second, none-kept, first-counted, Smaller, saved-shrank, first-smaller, other-smaller}
+use Rattle.searching.proofs.reply.Reply.none.Reads as none-reads
 use Rattle.searching.proofs.reply.Reply.ended.Reads as ended-reads
 use Rattle.searching.proofs.search.write_values.Reads as write-values-reads
 use Rattle.searching.proofs.search.search.Reads as search′
@@ -39,7 +40,7 @@ search-below t = and 2 search-kinds.ps (falls 2 search-kinds.ps _<_ μ-search t)
 
 -- what the calls ask and give
 abbrev claims : ℕ → search-lts.Claims
-claims t = (shrink-reads.Asked, shrink-reads.Learnt, ended-reads.Asked, ended-reads.Learnt, choose-reads.Asked, choose-reads.Learnt, smallest-values-reads.Asked, smallest-values-reads.Learnt, write-values-reads.Asked, write-values-reads.Learnt, first-half-reads.Asked, first-half-reads.Learnt, other-half-reads.Asked, other-half-reads.Learnt, search-below t, search′.Post)
+claims t = (shrink-reads.Asked, shrink-reads.Learnt, none-reads.Asked, none-reads.Learnt, choose-reads.Asked, choose-reads.Learnt, smallest-values-reads.Asked, smallest-values-reads.Learnt, write-values-reads.Asked, write-values-reads.Learnt, ended-reads.Asked, ended-reads.Learnt, first-half-reads.Asked, first-half-reads.Learnt, other-half-reads.Asked, other-half-reads.Learnt, search-below t, search′.Post)
 
 -- ---- the states that a call comes through, each named by what was done last
 
@@ -50,7 +51,7 @@ abbrev Shrunk : ℕ → Type 0
 Shrunk t = search-lts.After-shrink (claims t) (search-at t) search′.Post
 
 abbrev Alive : ℕ → Type 0
-Alive t = search-lts.After-enum-told2 (claims t) (search-at t) search′.Post
+Alive t = search-lts.After-enum-told (claims t) (search-at t) search′.Post
 
 abbrev Chosen : ℕ → Type 0
 Chosen t = search-lts.After-choose (claims t) (search-at t) search′.Post
@@ -112,7 +113,7 @@ given c = let a = start c .args in record {
 
 -- a box that lives: what was saved of it
 kept : {t : ℕ} (c : Alive t) → Saved (given (shrunk c)) (shrunk c .shrink .result .rooms)
-kept c = saved-of (given (shrunk c)) (shrunk c .shrink .result) (shrunk c .shrink .ensures) (c .enum-told2 .given .1)
+kept c = saved-of (given (shrunk c)) (shrunk c .shrink .result) (shrunk c .shrink .ensures) (c .enum-told .given .1)
 
 -- a room of it that may be split
 split : {t : ℕ} (c : search-lts.Else2 (claims t) (search-at t) search′.Post) → Split (given (shrunk (living (chosen c)))) (shrunk (living (chosen c)) .shrink .result .rooms) (chosen c .choose .result)
@@ -121,22 +122,22 @@ split c = record { kept = kept (living (chosen c)); at = chosen c .choose .ensur
 search-shrink-requires : (t : ℕ) → search-lts.Need-shrink-requires (claims t) (search-at t) search′.Post
 search-shrink-requires t c κs = (c .before .before .pre .1 .0, c .before .before .pre .1 .1)
 
-search-enum-told : (t : ℕ) → search-lts.Need-enum-told (claims t) (search-at t) search′.Post
-search-enum-told t c = search needs
+search-enum-known-verdict : (t : ℕ) → search-lts.Need-enum-known-verdict (claims t) (search-at t) search′.Post
+search-enum-known-verdict t c = search needs
 
-search-add-ended : (t : ℕ) → search-lts.Need-add-ended (claims t) (search-at t) search′.Post
-search-add-ended t c = let counts = c .before .before .before .before .before .before .pre .1 .2 in omega arith
+search-add-none : (t : ℕ) → search-lts.Need-add-none (claims t) (search-at t) search′.Post
+search-add-none t c = let counts = c .before .before .before .before .before .before .before .pre .1 .2 in omega arith
 
-search-ended-requires : (t : ℕ) → search-lts.Need-ended-requires (claims t) (search-at t) search′.Post
-search-ended-requires t c κs = tt
+search-none-requires : (t : ℕ) → search-lts.Need-none-requires (claims t) (search-at t) search′.Post
+search-none-requires t c κs = tt
 
 search-returns : (t : ℕ) → search-lts.Need-returns (claims t) (search-at t) search′.Post
 search-returns t c =
-    let shrank = c .before .before .before .before in
-    ends-dead (given shrank) _ (shrunk-dead _ _ (shrank .shrink .result) _ (shrank .shrink .ensures) (c .before .enum-told .given .1)) (c .ended .ensures)
+    let shrank = c .before .before .before .before .before in
+    ends-dead (given shrank) _ (shrunk-dead _ _ (shrank .shrink .result) _ (shrank .shrink .ensures) (c .before .before .verdict .given .1)) (c .none .ensures)
 
-search-enum-told-2 : (t : ℕ) → search-lts.Need-enum-told-2 (claims t) (search-at t) search′.Post
-search-enum-told-2 t c = search needs
+search-enum-told : (t : ℕ) → search-lts.Need-enum-told (claims t) (search-at t) search′.Post
+search-enum-told t c = search needs
 
 search-choose-requires : (t : ℕ) → search-lts.Need-choose-requires (claims t) (search-at t) search′.Post
 search-choose-requires t c κs = begin (c .before) .pre .1 .0
@@ -150,8 +151,8 @@ search-write-values-requires t c κs =
     let start = living (least .before .before .before) in
     (positions (begin start), begin start .pre .1 .3, values-small (given (shrunk start)) (kept start) (least .smallest-values .ensures))
 
-search-ended-requires-2 : (t : ℕ) → search-lts.Need-ended-requires-2 (claims t) (search-at t) search′.Post
-search-ended-requires-2 t c κs = tt
+search-ended-requires : (t : ℕ) → search-lts.Need-ended-requires (claims t) (search-at t) search′.Post
+search-ended-requires t c κs = tt
 
 search-same-length : (t : ℕ) → search-lts.Need-same-length (claims t) (search-at t) search′.Post
 search-same-length t c = search needs
@@ -161,15 +162,15 @@ search-returns-2 t c =
     let wrote = c .before .before .before in
     let least = wrote .before .before .before in
     let choice = least .before .before .before in
-    ends-settled (given (shrunk (living choice))) (kept (living choice)) (choice .choose .result) (choice .choose .ensures) (least .before .before .if1 .taken) (least .smallest-values .ensures) (wrote .write-values .ensures) (c .ended2 .ensures)
+    ends-settled (given (shrunk (living choice))) (kept (living choice)) (choice .choose .result) (choice .choose .ensures) (least .before .before .if1 .taken) (least .smallest-values .ensures) (wrote .write-values .ensures) (c .ended .ensures)
 
-search-ended-requires-3 : (t : ℕ) → search-lts.Need-ended-requires-3 (claims t) (search-at t) search′.Post
-search-ended-requires-3 t c κs = tt
+search-ended-requires-2 : (t : ℕ) → search-lts.Need-ended-requires-2 (claims t) (search-at t) search′.Post
+search-ended-requires-2 t c κs = tt
 
 search-returns-3 : (t : ℕ) → search-lts.Need-returns-3 (claims t) (search-at t) search′.Post
 search-returns-3 t c =
     let choice = c .before .before .before in
-    ends-undecided (given (shrunk (living choice))) (record { kept = kept (living choice); at = choice .choose .ensures; there = c .before .before .if1 .left }) (c .before .if2 .taken) (c .ended3 .ensures)
+    ends-undecided (given (shrunk (living choice))) (record { kept = kept (living choice); at = choice .choose .ensures; there = c .before .before .if1 .left }) (c .before .if2 .taken) (c .ended2 .ensures)
 
 search-first-half-requires : (t : ℕ) → search-lts.Need-first-half-requires (claims t) (search-at t) search′.Post
 search-first-half-requires t c κs = omega (arith, positions (begin (living (chosen c))), split c .there)
@@ -244,18 +245,18 @@ pub +search-spec : {M : Type 1} → statement M
     (search-at t)
     search′.Post
     (search-shrink-requires t)
-    (search-enum-told t)
-    (search-add-ended t)
-    (search-ended-requires t)
+    (search-enum-known-verdict t)
+    (search-add-none t)
+    (search-none-requires t)
     (search-returns t)
-    (search-enum-told-2 t)
+    (search-enum-told t)
     (search-choose-requires t)
     (search-smallest-values-requires t)
     (search-write-values-requires t)
-    (search-ended-requires-2 t)
+    (search-ended-requires t)
     (search-same-length t)
     (search-returns-2 t)
-    (search-ended-requires-3 t)
+    (search-ended-requires-2 t)
     (search-returns-3 t)
     (search-first-half-requires t)
     (search-other-half-requires t)

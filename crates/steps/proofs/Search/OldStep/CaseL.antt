@@ -16,6 +16,6 @@ use Rattle.steps.specs.Table.{startOf}
 use Rattle.steps.specs.Cases.{case, case-l}
 
 -- the same hopeless search for each value of position 1, which no rule names
-pub case-l-before : (deeper : List ℕ → ℕ → ℕ → Reply) → exploredWide deeper (fieldsOf (fileOf (reading (case-l .bytes)))) (startOf (fileOf (reading (case-l .bytes)))) ≡ none 3 4
+pub case-l-before : (deeper : List ℕ → ℕ → ℕ → Reply) → exploredWide deeper (fieldsOf (fileOf (reading (case-l .bytes)))) (startOf (fileOf (reading (case-l .bytes)))) ≡ none 0 3 4
 unfolding full single union common complement inRange onlyIf isEmpty inside listedIf valuesFrom values count firstOf smallest beside others tagOf lengthAt setAt atomOf headOf contentOf atomsOf ruleOf lengthFits tagFault bodyFault headerBodyFault positionFault setFault atomFault atomsFault positionsFault ruleFault ruleAt fieldFault limitsFit headerFault sizeOf readFields reading fileOf placed fieldsOf partsOf roomAt withRoom startBox openValues smallestOf firstHalf otherHalf uniteIf united isLive liveFrom cut lookBy lookClause settledBy settledClause inTurn sameRooms shrink shrunk allOf lowest lowestWide exploreWide exploredWide startOf case case-l
 case-l-before deeper = refl
