@@ -22,12 +22,6 @@ round-field fields box place e =
     (in-turn-killed lookField fields box place e)
 
 module _ (fields : List Field) where
-  -- what holds of one of them over and over holds of one of them
-  some-over : (P : Field → Type 0) (k : ℕ) → Some P (overAndOver k fields) → Some P fields
-  unfolding overAndOver
-  some-over P zero h = absurd h
-  some-over P (suc k) h = ⊎-elim (λ s. s) (some-over P k) (some-over-append P fields (overAndOver k fields) .0 h)
-
   -- the fields gone through some times more after a look
   later : ℕ → Look → Look
   later k l = ifAlive l (λ p. dead p) λ b. inTurn lookField (overAndOver k fields) b
@@ -70,6 +64,12 @@ module _ (fields : List Field) where
   -- there is one such place
   pub first-dead-once : (box : List ℕ) (p q : ℕ) → FirstDead fields box p → FirstDead fields box q → p ≡ q
   first-dead-once box p q h g = let same = rounds-once fields (over-rounds (h .0) box p (h .1)) (over-rounds (g .0) box q (g .1)) in cc
+
+  -- what holds of one of them over and over holds of one of them
+  some-over : (P : Field → Type 0) (k : ℕ) → Some P (overAndOver k fields) → Some P fields
+  unfolding overAndOver
+  some-over P zero h = absurd h
+  some-over P (suc k) h = ⊎-elim (λ s. s) (some-over P k) (some-over-append P fields (overAndOver k fields) .0 h)
 
   -- and it is that of one of the fields
   pub dead-field : (box : List ℕ) (place : ℕ) → FirstDead fields box place → Some (λ f. f .place ≡ place) fields
