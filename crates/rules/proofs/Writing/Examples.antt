@@ -1,10 +1,11 @@
 -- An example of a rule file: its bytes are read as the file, the file is written as the bytes, and its fields stand where they do. Assumes nothing.
-use mathlib.Core.Path.{_≡_, refl}
+use mathlib.Core.Path.{_≡_, refl, ap}
 use mathlib.Core.List.{List, [], _∷_, _++_, map}
 use native.Mathlib.Omega.{arith}
+use lib.ListN.{length}
 use Prim.Native.Nat.{ℕ}
 use Rattle.sets.specs.Sets.{inRange, onlyIf, full, common, inside}
-use Rattle.rules.specs.Rules.{File, Field, clause, equality}
+use Rattle.rules.specs.Rules.{Rule, File, Field, clause, equality}
 use Rattle.rules.specs.Reading.{tagOf, lengthAt, setAt, atomOf, headOf, contentOf, atomsOf, ruleOf, lengthFits, tagFault, bodyFault, headerBodyFault, positionFault, setFault, atomFault, atomsFault, positionsFault, ruleFault, ruleAt, fieldFault, limitsFit, headerFault, sound, sizeOf, readFields, reading}
 use Rattle.rules.specs.Writing.{twoBytes, fourBytes, writtenAtoms, framed, tagByte, contentBytes, writtenRule, writtenRules, written, placed, fieldsOf}
 use Rattle.rules.specs.Sound.{StandsIn}
@@ -50,7 +51,13 @@ pub example-up-to : (map tagByte (upTo 23 exampleFile .rules) ≡ 2 ∷ 3 ∷ []
 unfolding exampleFile fieldsOf placed writtenRule framed tagByte contentBytes writtenAtoms fourBytes twoBytes fieldsUpTo upTo
 example-up-to = (refl, refl, refl)
 
--- the empty clause stands in the bytes at 32, where its tag byte is; it does not stand at 33
+-- the number of atoms of a clause; 0 for an equality
+abbrev atomsIn : Rule → ℕ
+atomsIn (clause atoms) = length atoms
+atomsIn (equality m ps) = 0
+
+-- the empty clause stands in the bytes at 32, where its tag byte is; it does not stand at 33, and at 5 another clause is read
 pub example-stands : StandsIn exampleBytes (record { place = 32; rule = clause [] }) × (StandsIn exampleBytes (record { place = 33; rule = clause [] }) → ⊥)
+    × (StandsIn exampleBytes (record { place = 5; rule = clause [] }) → ⊥)
 unfolding exampleBytes tagByte ruleAt ruleOf atomsOf contentOf headOf lengthAt tagOf
-example-stands = (record { behind = omega arith; within = omega arith; tag = refl; rule = refl }, λ stands. omega (arith, stands .tag))
+example-stands = (record { behind = omega arith; within = omega arith; tag = refl; rule = refl }, λ stands. omega (arith, stands .tag), λ stands. let z = ap atomsIn (stands .rule) in omega (arith, z))

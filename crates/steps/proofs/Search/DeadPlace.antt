@@ -11,13 +11,13 @@ use Rattle.steps.specs.Boxes.{Rooms}
 use Rattle.steps.specs.Shrinking.{dead, shrunk}
 use Rattle.steps.specs.FirstDead.{FirstDead}
 use Rattle.steps.specs.Reply.{Reply, none}
-use Rattle.steps.specs.Search.{search, searched}
+use Rattle.steps.specs.Search.{nowhere, searched}
 use Rattle.steps.proofs.Looks.DeadField.{shrunk-first-dead}
 use Rattle.steps.proofs.Looks.FittingRules.{FitsBox}
 use Rattle.steps.proofs.Search.Counts.{walk-counts}
 use Rattle.steps.proofs.Search.Split.{after-none, by-allowance}
 use Rattle.steps.proofs.Search.Tree.{Tree, dies, settles, divides, tree}
-use Rattle.steps.proofs.Search.Walk.{walk, searched-walks}
+use Rattle.steps.proofs.Search.Walk.{walk, search-dead, searched-walks}
 
 -- NONE, with no split
 abbrev pub NoneAtOnce : Reply → Type 0
@@ -62,8 +62,8 @@ module _ {fields : List Field} where
 module _ (fields : List Field) (box : List ℕ) (rooms : Rooms box) where
   -- where a field is first found dead, the reply is NONE at its place, with no split and one dead end, whatever is allowed
   pub dead-none : (allowed place : ℕ) → FirstDead fields box place → searched fields allowed box 0 0 ≡ none place 0 1
-  unfolding searched search
-  dead-none allowed place h = rw (shrunk-first-dead fields box place rooms .1 h)
+  unfolding searched
+  dead-none allowed place h = search-dead fields box place (shrunk-first-dead fields box place rooms .1 h) nowhere _ (leb allowed) 0 0
 
   module _ (fits : FitsBox fields box) (allowed : ℕ) where
     -- NONE with no split carries the place of the field first found dead

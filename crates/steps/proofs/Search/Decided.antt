@@ -16,8 +16,9 @@ use Rattle.steps.proofs.Looks.FittingRules.{FitsBox}
 use Rattle.steps.proofs.Search.Allowance.{Spent, enough-or-not, enough-allowed, too-few-allowed}
 use Rattle.steps.proofs.Search.Bounds.{explore-bound}
 use Rattle.steps.proofs.Search.Says.{Same, Says, says-same, explored-says}
-use Rattle.steps.proofs.Search.Special.{special-none, special-plan}
+use Rattle.steps.proofs.Search.Special.{special-plan}
 use Rattle.steps.proofs.Search.Chosen.{PlanIn, First}
+use Rattle.steps.proofs.Search.Walk.{explored-dead}
 use Rattle.steps.proofs.Search.WideRooms.{wideRooms}
 
 -- a box to search: its rooms, rules that fit it, and what its plans are
@@ -94,7 +95,7 @@ module _ {fields : List Field} {box : List ℕ} {Plan : List ℕ → Type 0} (st
   special-decides kind h = go (shrunk fields box) refl
     where
       go : (l : Look) → shrunk fields box ≡ l → SpecialReply
-      go (dead place) e = let found = special-none fields box place e in rw (enough (omega (arith, ap (λ (r : Reply). r .splits) found)), found) (inl (refl, refl))
+      go (dead place) e = let found = explored-dead fields box place e in rw (enough (omega (arith, ap (λ (r : Reply). r .splits) found)), found) (inl (refl, refl))
       go (alive inner) e =
           let low = special-plan fields box inner (start .rooms) (start .fits, kind) e in
           rw (enough (omega arith)) (inr (low .number, low .deadEnds, λ b p i. low .lowest b (start .plans b .1 p) i))

@@ -16,8 +16,8 @@ use Rattle.rules.specs.Parts.{oneOf, partsOf}
 use Rattle.lists.proofs.ListLaws.{every-of-listed, every-at}
 use Rattle.steps.specs.Boxes.{InBox, Rooms, smallestOf, firstHalf}
 use Rattle.steps.specs.Shrinking.{lookPart, dead, alive, lookRule, round, shrunk}
-use Rattle.steps.specs.Reply.{Reply, none}
-use Rattle.steps.specs.Search.{search, never, explored}
+use Rattle.steps.specs.Reply.{Reply}
+use Rattle.steps.specs.Search.{never, explored}
 use Rattle.steps.specs.Special.{specialRule, specialRules}
 use Rattle.steps.proofs.Boxes.BoxLaws.{same-length, in-box-set, rooms-at}
 use Rattle.steps.proofs.Boxes.BoxSizes.{smallest-in-box, smallest-lowest}
@@ -89,11 +89,6 @@ module _ (fields : List Field) where
   -- the rules fit v positions and are of the special kind
   abbrev pub SpecialFits : ℕ → Type 0
   SpecialFits v = FieldsFit v fields × T (specialRules v fields)
-
-  -- where the box dies in shrinking, there is no plan, at that one dead end and without a split
-  pub special-none : (box : List ℕ) (place : ℕ) → shrunk fields box ≡ dead place → explored fields box ≡ none place 0 1
-  unfolding explored search
-  special-none box place e = rw e
 
   module _ {box inner : List ℕ} (m : Shrinks fields box inner) (fits : SpecialFits (length box)) where
     -- the smallest values of the shrunk box are a plan

@@ -7,6 +7,7 @@ use native.Mathlib.Omega.{arith}
 use lib.Dec.{leb}
 use Rattle.rules.specs.Rules.{Field}
 use Rattle.steps.specs.Boxes.{openValues, Rooms, smallestOf}
+use Rattle.steps.specs.Shrinking.{dead, shrunk}
 use Rattle.steps.specs.Reply.{Reply, plan, none}
 use Rattle.steps.specs.Search.{turn, search, nowhere, searched, never, explored}
 use Rattle.steps.proofs.Looks.FittingRules.{FitsBox}
@@ -18,6 +19,17 @@ abbrev pub walk : {fields : List Field} {box : List ℕ} → Tree fields box →
 walk (dies place rooms e) spent s d = none place s (d + 1)
 walk (settles {inner = inner} m t) spent s d = plan (smallestOf inner) s d
 walk (divides m u at p f o) spent s d = split spent s d (walk f spent (s + 1) d) (walk o spent)
+
+-- a dead box ends a search at once, whatever is allowed
+pub search-dead : (fields : List Field) (box : List ℕ) (place : ℕ) → shrunk fields box ≡ dead place
+    → (deeper : List ℕ → ℕ → ℕ → Reply) (k : ℕ) (spent : ℕ → Bool) (s d : ℕ) → search deeper (suc k) fields spent box s d ≡ none place s (d + 1)
+unfolding search
+search-dead fields box place e deeper k spent s d = rw e
+
+-- also without an allowance
+pub explored-dead : (fields : List Field) (box : List ℕ) (place : ℕ) → shrunk fields box ≡ dead place → explored fields box ≡ none place 0 1
+unfolding explored
+explored-dead fields box place e = search-dead fields box place e nowhere _ never 0 0
 
 module _ {fields : List Field} where
   -- a turn follows the tree where the searches of smaller boxes do

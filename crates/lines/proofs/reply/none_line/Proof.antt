@@ -2,6 +2,7 @@
 use mathlib.Core.Path.{sym, ap, _∙_}
 use mathlib.Core.List.{List, [], _∷_, _++_}
 use Prim.Native.Nat.{ℕ}
+use native.Mathlib.Omega.{arith}
 use borrow.Author.Needs.{needs}
 use Rattle.texts.specs.Bytes.{bytesOf, newline}
 use Rattle.texts.specs.Grown.{lineOf, grown}
@@ -14,7 +15,7 @@ returns : tie.Need-returns
 unfolding newline bytesOf
 returns c =
     let counts = c .before .before in
-    grown-more (lineOf []) _ (10 ∷ []) (counts .begun .ensures) (c .byte .ensures) ∙ ap (grown (lineOf [])) (line-ended _ _ ∙ sym (none-short _ _ _ (c .before .if1 .taken)))
+    grown-more (lineOf []) _ (10 ∷ []) (counts .begun .ensures) (c .byte .ensures) ∙ ap (grown (lineOf [])) (line-ended _ _ ∙ sym (none-short _ _ _ (omega (arith, c .before .if1 .taken))))
 
 returns-2 : tie.Need-returns-2
 unfolding newline bytesOf
@@ -25,7 +26,7 @@ returns-2 c =
     let all = grown-more (lineOf []) _ _ (counts .begun .ensures) (more .behind .ensures) in
     grown-more (lineOf []) _ (10 ∷ []) all (c .byte2 .ensures)
     ∙ ap (grown (lineOf [])) (ap (λ (bytes : List ℕ). bytes ++ newline) (begun-more (bytesOf "NONE") (a .splits) (a .dead-ends) (a .place))
-    ∙ line-ended _ _ ∙ sym (none-long _ _ _ (more .before .if1 .left)))
+    ∙ line-ended _ _ ∙ sym (none-long _ _ _ (λ e. omega (arith, e, more .before .if1 .left))))
 
 pub none-line-spec : {M : Type 1} → statement M
 none-line-spec =
