@@ -29,7 +29,7 @@ search-dead fields box place e deeper k spent s d = rw e
 -- also without an allowance
 pub explored-dead : (fields : List Field) (box : List ℕ) (place : ℕ) → shrunk fields box ≡ dead place → explored fields box ≡ none place 0 1
 unfolding explored
-explored-dead fields box place e = search-dead fields box place e nowhere _ never 0 0
+explored-dead fields box place e = search-dead fields box place e nowhere _ _ 0 0
 
 module _ {fields : List Field} where
   -- a turn follows the tree where the searches of smaller boxes do
