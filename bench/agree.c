@@ -1,5 +1,5 @@
 /* Agreement: the proved planner and the yardstick are called with the same files, buffers and
-   allowances, and must give the same reply and leave the same bytes.
+   allowances, and must give the same reply, leave the same bytes, and know the same most rounds of the file.
 
        agree [CALLS [SEED]]      CALLS is the least number of calls, 400,000 where it is not given
 
@@ -34,15 +34,25 @@ static void survey(void);
 
 enum { GUARD = 64, LONGEST_ANSWER = 200, AREA = GUARD + LONGEST_ANSWER + GUARD };
 
-/* What came of a call: the reply's four numbers, and the answer buffer with the bytes around it. */
+/* What came of a call: the reply's five numbers, and the answer buffer with the bytes around it; and the most
+   rounds of the file, which were asked for before the call. */
 struct outcome {
-    uint64_t number, place, splits, dead_ends;
+    uint64_t number, place, splits, dead_ends, rounds;
+    uint64_t most_rounds;
     uint8_t area[AREA];
 };
 
-typedef void planner(const uint8_t *input, size_t input_len, uint8_t *answer, size_t answer_len,
-                     uint64_t allowance, uint64_t *number, uint64_t *place, uint64_t *splits,
-                     uint64_t *dead_ends);
+/* One of the two that are compared. */
+struct planner {
+    const char *name;
+    void (*plan)(const uint8_t *input, size_t input_len, uint8_t *answer, size_t answer_len,
+                 uint64_t allowance, uint64_t *number, uint64_t *place, uint64_t *splits,
+                 uint64_t *dead_ends, uint64_t *rounds);
+    uint64_t (*most_rounds)(const uint8_t *input, size_t input_len);
+};
+
+static const struct planner proved = { "planner", oarloom_plan, oarloom_rounds_most };
+static const struct planner yardstick = { "yardstick", yardstick_plan, yardstick_rounds_most };
 
 /* The input is put directly before a page that cannot be read, so that a planner which reads past the
    input's end is stopped by the machine. */
@@ -81,9 +91,10 @@ static void print_bytes(const char *what, const uint8_t *bytes, size_t length)
 
 static void print_outcome(const char *who, const struct outcome *outcome, size_t answer_len)
 {
-    printf("%s: number %llu, place %llu, splits %llu, dead ends %llu\n", who,
+    printf("%s: number %llu, place %llu, splits %llu, dead ends %llu, rounds %llu of at most %llu\n", who,
            (unsigned long long)outcome->number, (unsigned long long)outcome->place,
-           (unsigned long long)outcome->splits, (unsigned long long)outcome->dead_ends);
+           (unsigned long long)outcome->splits, (unsigned long long)outcome->dead_ends,
+           (unsigned long long)outcome->rounds, (unsigned long long)outcome->most_rounds);
     print_bytes("  the 64 bytes before its answer buffer", outcome->area, GUARD);
     print_bytes("  its answer buffer", outcome->area + GUARD, answer_len);
     print_bytes("  the bytes behind", outcome->area + GUARD + answer_len, AREA - GUARD - answer_len);
@@ -97,8 +108,8 @@ static void stop(const char *what, const struct outcome *planned, const struct o
     printf("answer buffer of %zu bytes, allowance %llu\n", answer_len, (unsigned long long)allowance);
     print_bytes("the file", file.bytes, file.length);
     print_bytes("the answer buffer before", area + GUARD, answer_len);
-    print_outcome("planner", planned, answer_len);
-    print_outcome("yardstick", measured, answer_len);
+    print_outcome(proved.name, planned, answer_len);
+    print_outcome(yardstick.name, measured, answer_len);
     exit(1);
 }
 
@@ -135,16 +146,40 @@ static void catch_crashes(void)
     sigaction(SIGFPE, &action, 0);
 }
 
-static void call(planner *plan, const uint8_t *area, size_t answer_len, uint64_t allowance, struct outcome *outcome)
+static void call(const struct planner *planner, const uint8_t *area, size_t answer_len, uint64_t allowance,
+                 struct outcome *outcome)
 {
-    running.who = plan == oarloom_plan ? "planner" : "yardstick";
+    running.who = planner->name;
     running.answer_len = answer_len;
     running.allowance = allowance;
+    outcome->most_rounds = planner->most_rounds(input_end - file.length, file.length);
     /* Numbers that no reply has, so that one that is not written shows. */
-    outcome->number = outcome->place = outcome->splits = outcome->dead_ends = 0xdeadbeefdeadbeef;
+    outcome->number = outcome->place = outcome->splits = outcome->dead_ends = outcome->rounds = 0xdeadbeefdeadbeef;
     memcpy(outcome->area, area, AREA);
-    plan(input_end - file.length, file.length, outcome->area + GUARD, answer_len, allowance,
-         &outcome->number, &outcome->place, &outcome->splits, &outcome->dead_ends);
+    planner->plan(input_end - file.length, file.length, outcome->area + GUARD, answer_len, allowance,
+                  &outcome->number, &outcome->place, &outcome->splits, &outcome->dead_ends, &outcome->rounds);
+}
+
+/* How many calls took so many rounds: see count_rounds. */
+static struct {
+    uint64_t one, two, three, more, undecided, bound, wide_bound, most;
+} rounds;
+
+/* Counts the rounds of a call that was not refused. The bound that tells something is one of three rounds or
+   more: a single value to cut reaches the bound of two. */
+static void count_rounds(const struct outcome *outcome)
+{
+    rounds.one += outcome->rounds == 1;
+    rounds.two += outcome->rounds == 2;
+    rounds.three += outcome->rounds == 3;
+    rounds.more += outcome->rounds > 3;
+    rounds.undecided += outcome->number == 2 && outcome->rounds > 1;
+    if (outcome->rounds == outcome->most_rounds) {
+        rounds.bound++;
+        rounds.wide_bound += outcome->rounds > 2;
+    }
+    if (outcome->rounds > rounds.most)
+        rounds.most = outcome->rounds;
 }
 
 /* Calls both with the current file and compares. Answers what came of it. */
@@ -160,14 +195,14 @@ static struct outcome compare(size_t answer_len, uint64_t allowance)
     add_to_sum(file.bytes, file.length);
     add_to_sum((const uint8_t[]) { (uint8_t)answer_len, (uint8_t)allowance, (uint8_t)(allowance >> 8) }, 3);
     memcpy(input_end - file.length, file.bytes, file.length);
-    call(oarloom_plan, area, answer_len, allowance, &planned);
+    call(&proved, area, answer_len, allowance, &planned);
     if (memcmp(input_end - file.length, file.bytes, file.length) != 0) {
         printf("the planner wrote to its input\n");
         memcpy(input_end - file.length, file.bytes, file.length);
-        call(yardstick_plan, area, answer_len, allowance, &measured);
+        call(&yardstick, area, answer_len, allowance, &measured);
         stop("the input was changed", &planned, &measured, area, answer_len, allowance);
     }
-    call(yardstick_plan, area, answer_len, allowance, &measured);
+    call(&yardstick, area, answer_len, allowance, &measured);
     if (planned.number != measured.number)
         stop("number", &planned, &measured, area, answer_len, allowance);
     if (planned.place != measured.place)
@@ -176,6 +211,10 @@ static struct outcome compare(size_t answer_len, uint64_t allowance)
         stop("splits", &planned, &measured, area, answer_len, allowance);
     if (planned.dead_ends != measured.dead_ends)
         stop("dead ends", &planned, &measured, area, answer_len, allowance);
+    if (planned.rounds != measured.rounds)
+        stop("rounds", &planned, &measured, area, answer_len, allowance);
+    if (planned.most_rounds != measured.most_rounds)
+        stop("the most rounds", &planned, &measured, area, answer_len, allowance);
     if (memcmp(planned.area, measured.area, AREA) != 0)
         stop("the answer buffer, or bytes around it", &planned, &measured, area, answer_len, allowance);
     /* Both agree; so the bytes that stay can be tested on one. PLAN writes v bytes, v being the
@@ -184,70 +223,86 @@ static struct outcome compare(size_t answer_len, uint64_t allowance)
     if (memcmp(planned.area, area, GUARD) != 0
         || memcmp(planned.area + GUARD + written, area + GUARD + written, AREA - GUARD - written) != 0)
         stop("both wrote bytes that have to stay", &planned, &measured, area, answer_len, allowance);
+    /* A refusal has no rounds, and a reply to a sound file at least one; never more than the most. A file that
+       is refused for what it is, and not for the buffer or the allowance, has 0 as its most. */
+    if ((planned.rounds == 0) != (planned.number >= 10) || planned.rounds > planned.most_rounds)
+        stop("both have rounds that cannot be", &planned, &measured, area, answer_len, allowance);
+    if (planned.number >= 10 && planned.number != 11 && planned.number != 12 && planned.most_rounds != 0)
+        stop("both have a most for a file that is refused", &planned, &measured, area, answer_len, allowance);
     calls_by_number[planned.number % 32]++;
     if (planned.splits > most_splits)
         most_splits = planned.splits;
-    if (planned.number < 10)
+    if (planned.number < 10) {
+        count_rounds(&planned);
         survey();
+    }
     return planned;
 }
 
 /* ---- examples with the replies that are right: 01's, d with the place of 02 (R-3) and l with its counts
-   (R-2); and files that tell readings of R-3 and of R-2 apart, which unmet.rt and step4.rt of
-   crates/bench_examples/src/ work out by hand ---- */
+   (R-2), all with the rounds of 02 (R-10); and files that tell readings of R-3, of R-10 and of R-2 apart,
+   which stand in crates/bench_examples/src/ too: unmet.rt and step4.rt there work out R-3 and R-2 by hand ---- */
 
 enum { CLAUSE = -1, EQUALITY = -2, END = -3 };
 
 static const struct example {
     const char *name;
     int rules[40]; /* v, n; then a clause with position, set, ..; an equality with M, position, .. */
-    uint64_t allowance, number, place, splits, dead_ends;
+    uint64_t allowance, number, place, splits, dead_ends, rounds;
     const char *plan; /* a digit for each position */
 } examples[] = {
     { "a", { 3, 2, CLAUSE, 1, 2, 2, 2, 3, 1, CLAUSE, 1, 1, 2, 1, CLAUSE, 3, 2, CLAUSE, 1, 2, 2, 1, END },
-      1000000, 0, 0, 1, 1, "212" },
+      1000000, 0, 0, 1, 1, 2, "212" },
     { "b", { 4, 2, CLAUSE, 1, 2, 2, 1, 3, 1, 4, 1, CLAUSE, 2, 2, 4, 1, CLAUSE, 3, 2, 4, 1, CLAUSE, 4, 2, END },
-      1000000, 0, 0, 0, 0, "2222" },
-    { "c", { 2, 3, END }, 1000000, 0, 0, 0, 0, "11" },
-    { "d", { 2, 3, CLAUSE, END }, 1000000, 1, 5, 0, 1, "" },
-    { "e", { 2, 2, EQUALITY, 3, 1, 2, END }, 1000000, 0, 0, 1, 0, "12" },
-    { "f", { 2, 2, EQUALITY, 3, 1, 2, END }, 0, 2, 0, 0, 0, "" },
-    { "g", { 2, 3, EQUALITY, 7, 1, 2, END }, 1000000, 1, 0, 1, 2, "" },
-    { "h", { 3, 3, EQUALITY, 7, 1, 2, 3, END }, 1000000, 0, 0, 3, 1, "123" },
-    { "i", { 3, 3, EQUALITY, 7, 1, 2, 3, END }, 2, 2, 0, 2, 1, "" },
-    { "j", { 2, 3, CLAUSE, 1, 6, CLAUSE, 1, 1, 2, 4, END }, 1000000, 0, 0, 0, 0, "23" },
-    { "k", { 2, 2, CLAUSE, 1, 1, 2, 1, END }, 1000000, 0, 0, 1, 0, "11" },
+      1000000, 0, 0, 0, 0, 4, "2222" },
+    { "c", { 2, 3, END }, 1000000, 0, 0, 0, 0, 1, "11" },
+    { "d", { 2, 3, CLAUSE, END }, 1000000, 1, 5, 0, 1, 1, "" },
+    { "e", { 2, 2, EQUALITY, 3, 1, 2, END }, 1000000, 0, 0, 1, 0, 1, "12" },
+    { "f", { 2, 2, EQUALITY, 3, 1, 2, END }, 0, 2, 0, 0, 0, 1, "" },
+    { "g", { 2, 3, EQUALITY, 7, 1, 2, END }, 1000000, 1, 0, 1, 2, 1, "" },
+    { "h", { 3, 3, EQUALITY, 7, 1, 2, 3, END }, 1000000, 0, 0, 3, 1, 1, "123" },
+    { "i", { 3, 3, EQUALITY, 7, 1, 2, 3, END }, 2, 2, 0, 2, 1, 1, "" },
+    { "j", { 2, 3, CLAUSE, 1, 6, CLAUSE, 1, 1, 2, 4, END }, 1000000, 0, 0, 0, 0, 2, "23" },
+    { "k", { 2, 2, CLAUSE, 1, 1, 2, 1, END }, 1000000, 0, 0, 1, 0, 1, "11" },
     { "l", { 3, 2, CLAUSE, 2, 1, 3, 1, CLAUSE, 2, 1, 3, 2, CLAUSE, 2, 2, 3, 1, CLAUSE, 2, 2, 3, 2, END },
-      1000000, 1, 0, 1, 2, "" },
+      1000000, 1, 0, 1, 2, 1, "" },
     { "dead at the last field", { 2, 2, CLAUSE, 1, 1, 2, 1, CLAUSE, 1, 2, CLAUSE, 2, 2, CLAUSE, 2, 1, END },
-      1000000, 1, 34, 0, 1, "" },
-    { "dead in round two", { 2, 2, CLAUSE, 1, 2, 2, 1, CLAUSE, 1, 1, CLAUSE, 2, 2, END }, 1000000, 1, 5, 0, 1, "" },
+      1000000, 1, 34, 0, 1, 1, "" },
+    { "dead in round two", { 2, 2, CLAUSE, 1, 2, 2, 1, CLAUSE, 1, 1, CLAUSE, 2, 2, END }, 1000000, 1, 5, 0, 1, 2, "" },
     { "dead in round two, allowance 0", { 2, 2, CLAUSE, 1, 2, 2, 1, CLAUSE, 1, 1, CLAUSE, 2, 2, END },
-      0, 1, 5, 0, 1, "" },
-    { "two dead fields", { 2, 2, CLAUSE, 1, 1, CLAUSE, 2, 0, CLAUSE, END }, 1000000, 1, 13, 0, 1, "" },
+      0, 1, 5, 0, 1, 2, "" },
+    { "two dead fields", { 2, 2, CLAUSE, 1, 1, CLAUSE, 2, 0, CLAUSE, END }, 1000000, 1, 13, 0, 1, 1, "" },
     { "middle field in round two",
-      { 3, 2, CLAUSE, 3, 1, CLAUSE, 1, 1, 2, 1, CLAUSE, 1, 2, 3, 2, CLAUSE, 2, 2, END }, 1000000, 1, 13, 0, 1, "" },
-    { "equality dead by its own cut", { 1, 2, EQUALITY, 3, 1, CLAUSE, END }, 1000000, 1, 5, 0, 1, "" },
+      { 3, 2, CLAUSE, 3, 1, CLAUSE, 1, 1, 2, 1, CLAUSE, 1, 2, 3, 2, CLAUSE, 2, 2, END }, 1000000, 1, 13, 0, 1, 2, "" },
+    { "equality dead by its own cut", { 1, 2, EQUALITY, 3, 1, CLAUSE, END }, 1000000, 1, 5, 0, 1, 1, "" },
     { "equality cuts at once",
       { 3, 3, CLAUSE, 1, 3, CLAUSE, 2, 6, CLAUSE, 3, 4, EQUALITY, 7, 1, 2, 3, CLAUSE, 2, 4, END },
-      1000000, 1, 39, 0, 1, "" },
+      1000000, 1, 39, 0, 1, 1, "" },
     { "equality once in a round",
       { 3, 3, CLAUSE, 1, 3, CLAUSE, 2, 5, CLAUSE, 3, 4, EQUALITY, 7, 1, 2, 3, CLAUSE, 2, 4, END },
-      1000000, 1, 29, 0, 1, "" },
-    { "dead after a split", { 2, 3, CLAUSE, 1, 7, EQUALITY, 7, 1, 2, END }, 1000000, 1, 0, 1, 2, "" },
-    { "dead after a split, allowance 0", { 2, 3, CLAUSE, 1, 7, EQUALITY, 7, 1, 2, END }, 0, 2, 0, 0, 0, "" },
+      1000000, 1, 29, 0, 1, 2, "" },
+    { "dead after a split", { 2, 3, CLAUSE, 1, 7, EQUALITY, 7, 1, 2, END }, 1000000, 1, 0, 1, 2, 1, "" },
+    { "dead after a split, allowance 0", { 2, 3, CLAUSE, 1, 7, EQUALITY, 7, 1, 2, END }, 0, 2, 0, 0, 0, 1, "" },
+    { "rounds at the bound", { 3, 2, CLAUSE, 2, 1, 3, 2, CLAUSE, 1, 1, 2, 2, CLAUSE, 1, 2, END },
+      1000000, 0, 0, 0, 0, 4, "222" },
+    { "rounds, undecided", { 3, 2, CLAUSE, 1, 2, CLAUSE, 2, 1, 3, 1, END }, 0, 2, 0, 0, 0, 2, "" },
+    { "rounds of the first box", { 3, 2, CLAUSE, 1, 2, CLAUSE, 2, 1, 3, 1, END }, 1000000, 0, 0, 1, 0, 2, "211" },
+    { "rounds, dead at once", { 2, 2, CLAUSE, END }, 1000000, 1, 5, 0, 1, 1, "" },
+    { "rounds, last box takes more", { 3, 2, CLAUSE, 2, 1, 3, 1, CLAUSE, 1, 1, 2, 2, CLAUSE, 1, 2, 3, 2, END },
+      1000000, 0, 0, 1, 0, 1, "112" },
+    { "rounds, one room", { 1, 3, CLAUSE, 1, 6, CLAUSE, 1, 4, END }, 1000000, 0, 0, 0, 0, 2, "3" },
     { "l, allowance 0",
       { 3, 2, CLAUSE, 2, 1, 3, 1, CLAUSE, 2, 1, 3, 2, CLAUSE, 2, 2, 3, 1, CLAUSE, 2, 2, 3, 2, END },
-      0, 2, 0, 0, 0, "" },
-    { "own set", { 3, 2, CLAUSE, 1, 3, CLAUSE, 2, 1, 3, 1, END }, 1000000, 0, 0, 1, 0, "111" },
-    { "own sets united", { 3, 2, CLAUSE, 1, 1, 1, 2, 2, 1, CLAUSE, 2, 2, 3, 1, END }, 1000000, 0, 0, 1, 0, "111" },
+      0, 2, 0, 0, 0, 1, "" },
+    { "own set", { 3, 2, CLAUSE, 1, 3, CLAUSE, 2, 1, 3, 1, END }, 1000000, 0, 0, 1, 0, 1, "111" },
+    { "own sets united", { 3, 2, CLAUSE, 1, 1, 1, 2, 2, 1, CLAUSE, 2, 2, 3, 1, END }, 1000000, 0, 0, 1, 0, 1, "111" },
     { "settled by another", { 3, 3, CLAUSE, 2, 3, CLAUSE, 1, 1, 2, 3, CLAUSE, 2, 1, 3, 1, END },
-      1000000, 0, 0, 1, 0, "111" },
-    { "named and not live", { 3, 3, CLAUSE, 1, 6, CLAUSE, 1, 1, 2, 1, 3, 1, END }, 1000000, 0, 0, 1, 0, "211" },
+      1000000, 0, 0, 1, 0, 2, "111" },
+    { "named and not live", { 3, 3, CLAUSE, 1, 6, CLAUSE, 1, 1, 2, 1, 3, 1, END }, 1000000, 0, 0, 1, 0, 2, "211" },
     { "values settled", { 5, 3, CLAUSE, 1, 3, CLAUSE, 2, 1, CLAUSE, 3, 2, EQUALITY, 7, 1, 2, 3, 4, 5, END },
-      1000000, 0, 0, 1, 0, "11213" },
-    { "later clause", { 3, 2, CLAUSE, 2, 1, 3, 1, CLAUSE, 1, 2, 2, 2, END }, 1000000, 0, 0, 1, 0, "121" },
-    { "largest", { 64, 32, END }, 1000000, 0, 0, 0, 0,
+      1000000, 0, 0, 1, 0, 2, "11213" },
+    { "later clause", { 3, 2, CLAUSE, 2, 1, 3, 1, CLAUSE, 1, 2, 2, 2, END }, 1000000, 0, 0, 1, 0, 1, "121" },
+    { "largest", { 64, 32, END }, 1000000, 0, 0, 0, 0, 1,
       "1111111111111111111111111111111111111111111111111111111111111111" },
 };
 
@@ -303,7 +358,9 @@ static void compare_examples(void)
         write_rules(example->rules);
         outcome = compare(64, example->allowance);
         expect(outcome.number == example->number && outcome.place == example->place
-                   && outcome.splits == example->splits && outcome.dead_ends == example->dead_ends,
+                   && outcome.splits == example->splits && outcome.dead_ends == example->dead_ends
+                   && outcome.rounds == example->rounds
+                   && outcome.most_rounds == (uint64_t)(example->rules[0] * (example->rules[1] - 1) + 1),
                example->name);
         for (size_t i = 0; example->plan[i]; i++)
             expect(outcome.area[GUARD + i] == example->plan[i] - '0', example->name);
@@ -315,7 +372,8 @@ static void compare_examples(void)
         memcpy(file.bytes, refused[k].bytes, refused[k].length);
         outcome = compare(64, 1000000);
         expect(outcome.number == refused[k].number && outcome.place == refused[k].place
-                   && outcome.splits == 0 && outcome.dead_ends == 0,
+                   && outcome.splits == 0 && outcome.dead_ends == 0 && outcome.rounds == 0
+                   && outcome.most_rounds == 0,
                refused[k].name);
     }
 }
@@ -467,6 +525,31 @@ static void make_climb(void)
     if (one_in(2))
         any_clause(v, n, 3);
     if (one_in(4))
+        any_equality(v, n, v);
+}
+
+/* One value a round: a chain of clauses, each of which takes a value from a position as soon as the one before
+   it has taken a value from another. They stand in the file from the chain's end to its beginning. Where the
+   chain leaves every position one value, the rounds are as many as there can be. */
+static void make_one_a_round(void)
+{
+    uint32_t v = 2 + below(5), n = 2 + below(4), turn = below(v);
+    uint32_t all = values_to(n);
+    int rising = one_in(2);
+    uint32_t links = one_in(3) ? 1 + below(v * (n - 1)) : v * (n - 1);
+
+    write_header(&file, v, n);
+    for (; links > 0; links--) {
+        uint32_t before = links - 2, last = links - 1; /* links of the chain, counted from 0 */
+
+        write_clause(&file);
+        if (links > 1)
+            write_atom(&file, 1 + (turn + before) % v, value_alone(rising ? 1 + before / v : n - before / v));
+        write_atom(&file, 1 + (turn + last) % v, all & ~value_alone(rising ? 1 + last / v : n - last / v));
+    }
+    if (one_in(4))
+        any_clause(v, n, 3);
+    if (one_in(6))
         any_equality(v, n, v);
 }
 
@@ -920,7 +1003,7 @@ static int is_long(void)
     struct yardstick_counts counts = yardstick_counts;
 
     memcpy(input_end - file.length, file.bytes, file.length);
-    call(yardstick_plan, area, 64, PROBE, &probe);
+    call(&yardstick, area, 64, PROBE, &probe);
     /* This call is not one of those compared, so it does not count. */
     yardstick_counts = counts;
     return probe.number == 2;
@@ -965,7 +1048,7 @@ static void compare_file(uint64_t number)
 
 static void make_file(void)
 {
-    uint32_t kind = below(700);
+    uint32_t kind = below(720);
 
     if (kind < 2)
         make_long();
@@ -989,8 +1072,10 @@ static void make_file(void)
         make_bytes();
     else if (kind < 670)
         make_passed_over();
-    else
+    else if (kind < 700)
         make_values_settled();
+    else
+        make_one_a_round();
     if (one_in(3))
         shuffle();
     if (one_in(4))
@@ -1042,6 +1127,17 @@ int main(int argc, char **argv)
     print_count("an empty set", had.empty_set);
     print_count("a full set", had.full_set);
     print_count("64 positions and 32 values", had.at_limit);
+    printf("  of the calls that were not refused, by the rounds of the first box:\n");
+    print_count("one", rounds.one);
+    print_count("two", rounds.two);
+    print_count("three", rounds.three);
+    print_count("more", rounds.more);
+    print_count("as many as the file's most", rounds.bound);
+    print_count("  among them three or more", rounds.wide_bound);
+    print_count("two or more, and the reply is UNDECIDED", rounds.undecided);
+    print_count("a later box took more than the first", yardstick_counts.later_took_more);
+    print_count("the last box took another number than the first", yardstick_counts.last_took_others);
+    print_count("most rounds of the first box", rounds.most);
     printf("  in the searches, by the yardstick:\n");
     print_count("splits", yardstick_counts.splits);
     print_count("splits where the smallest values were cut away in the same box", yardstick_counts.splits_after_cut);

@@ -22,10 +22,10 @@
 
 typedef void planner(const uint8_t *input, size_t input_len, uint8_t *answer, size_t answer_len,
                      uint64_t allowance, uint64_t *number, uint64_t *place, uint64_t *splits,
-                     uint64_t *dead_ends);
+                     uint64_t *dead_ends, uint64_t *rounds);
 
 struct reply {
-    uint64_t number, place, splits, dead_ends;
+    uint64_t number, place, splits, dead_ends, rounds;
     uint8_t answer[64];
 };
 
@@ -37,7 +37,7 @@ static struct reply call(planner *plan, uint64_t allowance)
 
     memset(&reply, 0, sizeof reply);
     plan(file.bytes, file.length, reply.answer, sizeof reply.answer, allowance, &reply.number,
-         &reply.place, &reply.splits, &reply.dead_ends);
+         &reply.place, &reply.splits, &reply.dead_ends, &reply.rounds);
     return reply;
 }
 
@@ -59,11 +59,12 @@ static double now(void)
 static double sample(planner *plan, uint64_t allowance, uint64_t repeats)
 {
     uint8_t answer[64];
-    uint64_t number, place, splits, dead_ends;
+    uint64_t number, place, splits, dead_ends, rounds;
     double start = now();
 
     for (uint64_t k = 0; k < repeats; k++)
-        plan(file.bytes, file.length, answer, sizeof answer, allowance, &number, &place, &splits, &dead_ends);
+        plan(file.bytes, file.length, answer, sizeof answer, allowance, &number, &place, &splits, &dead_ends,
+             &rounds);
     return (now() - start) / (double)repeats;
 }
 
@@ -122,9 +123,10 @@ static int rows, rows_above; /* rows that were timed, and those with a ratio abo
 
 static void print_reply(const char *who, const struct reply *reply)
 {
-    printf("%s: number %llu, place %llu, splits %llu, dead ends %llu\n", who,
+    printf("%s: number %llu, place %llu, splits %llu, dead ends %llu, rounds %llu\n", who,
            (unsigned long long)reply->number, (unsigned long long)reply->place,
-           (unsigned long long)reply->splits, (unsigned long long)reply->dead_ends);
+           (unsigned long long)reply->splits, (unsigned long long)reply->dead_ends,
+           (unsigned long long)reply->rounds);
 }
 
 static void print_row(const struct workload *workload)

@@ -1,5 +1,5 @@
 /* The yardstick: see yardstick.h. The section names in the comments are those of document 01; step 4 is
-   the one of document 02 (R-2), and so is the place of a NONE (R-3).
+   the one of document 02 (R-2), and so are the place of a NONE (R-3) and the rounds (R-10).
 
    The rules are parsed once, into arrays: a clause into its positions, each with the union of that
    position's sets; an equality into M and its positions, each once. The search then never looks at the
@@ -191,11 +191,13 @@ struct box {
 };
 
 static uint64_t allowed, split_count, dead_end_count;
+static uint64_t round_count;          /* the rounds of the first box */
 static const struct rule *first_dead; /* in the box last found dead, the rule first found so */
 static uint8_t plan[POSITIONS];
 
 #ifdef YARDSTICK_COUNTS
 struct yardstick_counts yardstick_counts;
+static uint64_t most_in_call, last_in_call; /* rounds: the most that a box of this call took, and its last box */
 #endif
 
 /* The smallest value of a room that is not empty, as a set of its own. */
@@ -273,7 +275,8 @@ static enum look look_at_equality(const struct rule *rule, struct box *box)
 }
 
 /* Step 1: rounds over all fields in file order, each room cut at once, until a round changes nothing.
-   Answers whether the box is alive; where it is not, first_dead is the rule first found dead. */
+   Answers whether the box is alive; where it is not, first_dead is the rule first found dead. A round counts
+   when it starts, so the last one does too; the box is the first one as long as there is no split. */
 static int shrink(struct box *box)
 {
     int changed;
@@ -284,9 +287,11 @@ static int shrink(struct box *box)
 
     do {
         changed = 0;
+        round_count += split_count == 0;
 #ifdef YARDSTICK_COUNTS
-        if (++rounds > yardstick_counts.most_rounds)
-            yardstick_counts.most_rounds = rounds;
+        last_in_call = ++rounds;
+        if (rounds > most_in_call)
+            most_in_call = rounds;
 #endif
         for (const struct rule *rule = rules; rule < rules + rule_count; rule++) {
             enum look look = rule->is_equality ? look_at_equality(rule, box) : look_at_clause(rule, box);
@@ -487,13 +492,14 @@ static int search(struct box box)
 
 void yardstick_plan(const uint8_t *input, size_t input_len, uint8_t *answer, size_t answer_len,
                     uint64_t allowance, uint64_t *number, uint64_t *place, uint64_t *splits,
-                    uint64_t *dead_ends)
+                    uint64_t *dead_ends, uint64_t *rounds)
 {
     struct box start;
 
     *place = 0;
     *splits = 0;
     *dead_ends = 0;
+    *rounds = 0;
     if (input_len > LONGEST_INPUT) {
         *number = INPUT_TOO_LONG;
         return;
@@ -512,14 +518,36 @@ void yardstick_plan(const uint8_t *input, size_t input_len, uint8_t *answer, siz
     allowed = allowance;
     split_count = 0;
     dead_end_count = 0;
+    round_count = 0;
+#ifdef YARDSTICK_COUNTS
+    most_in_call = 0;
+#endif
     for (uint32_t i = 0; i < POSITIONS; i++)
         start.rooms[i] = i < v ? full_set() : 0;
     *number = (uint64_t)search(start);
     *splits = split_count;
     *dead_ends = dead_end_count;
+    *rounds = round_count;
+#ifdef YARDSTICK_COUNTS
+    if (most_in_call > yardstick_counts.most_rounds)
+        yardstick_counts.most_rounds = most_in_call;
+    yardstick_counts.later_took_more += most_in_call > round_count;
+    yardstick_counts.last_took_others += last_in_call != round_count;
+#endif
     if (*number == NONE && split_count == 0) /* the box found dead is the first one: its place is told */
         *place = places[first_dead - rules];
     if (*number == PLAN)
         for (uint32_t i = 0; i < v; i++)
             answer[i] = plan[i];
+}
+
+uint64_t yardstick_rounds_most(const uint8_t *input, size_t input_len)
+{
+    uint64_t place, most = 1;
+
+    if (input_len > LONGEST_INPUT || parse(input, input_len, &place) != 0)
+        return 0;
+    for (uint32_t i = 0; i < v; i++) /* every room starts with n values */
+        most += n - 1;
+    return most;
 }

@@ -1,5 +1,5 @@
-/* The yardstick: a planner in plain C, written from documents 01 and 02 (R-2, R-3 and R-8) alone, to compare
-   the proved planner with, in what it answers and in how long it takes. Nothing of it is proved. */
+/* The yardstick: a planner in plain C, written from documents 01 and 02 (R-2, R-3, R-8 and R-10) alone, to
+   compare the proved planner with, in what it answers and in how long it takes. Nothing of it is proved. */
 #ifndef YARDSTICK_H
 #define YARDSTICK_H
 
@@ -7,11 +7,15 @@
 #include <stdint.h>
 
 /* Plans a file of rules, as oarloom_plan does: reads input_len bytes, writes a plan to the first
-   bytes of the answer buffer (only where the reply is PLAN), and always writes the four numbers of
+   bytes of the answer buffer (only where the reply is PLAN), and always writes the five numbers of
    the reply. The parsed rules are kept in arrays of the program, so only one call runs at a time. */
 void yardstick_plan(const uint8_t *input, size_t input_len, uint8_t *answer, size_t answer_len,
                     uint64_t allowance, uint64_t *number, uint64_t *place, uint64_t *splits,
-                    uint64_t *dead_ends);
+                    uint64_t *dead_ends, uint64_t *rounds);
+
+/* The most rounds of a file, as oarloom_rounds_most has them: v times n - 1, plus 1, and 0 where the file is
+   refused. Parses the file into the same arrays. */
+uint64_t yardstick_rounds_most(const uint8_t *input, size_t input_len);
 
 #ifdef YARDSTICK_COUNTS
 /* Only in the agreement test, to show what its files reach, over all calls: */
@@ -25,6 +29,9 @@ extern struct yardstick_counts {
     uint64_t places, places_later, places_equality;
     /* the largest number of rounds that shrinking one box took */
     uint64_t most_rounds;
+    /* calls where some later box took more rounds than the first; and where the last box took another
+       number of them */
+    uint64_t later_took_more, last_took_others;
     /* all splits; those that passed over a lower position of two or more values; and of these, such
        where a position that was passed over ... */
     uint64_t splits, passed_over;

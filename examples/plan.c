@@ -1,6 +1,7 @@
 /*
- * Plans a bench of two channels and two relays under one rule, prints the reply and the relay of
- * each channel, and asks the set functions which relays the plan uses.
+ * Plans a bench of two channels and two relays under one rule, prints the most rounds that
+ * shrinking can take, the reply and the relay of each channel, and asks the set functions which
+ * relays the plan uses.
  */
 #include <inttypes.h>
 #include <stdio.h>
@@ -15,12 +16,14 @@ static const uint8_t rules[] = {
 
 int main(void) {
     uint8_t answer[OARLOOM_ANSWER_LEAST] = {0};
-    uint64_t number = 0, place = 0, splits = 0, dead_ends = 0;
+    uint64_t number = 0, place = 0, splits = 0, dead_ends = 0, rounds = 0;
 
+    printf("shrinking takes at most %" PRIu64 " rounds\n", oarloom_rounds_most(rules, sizeof rules));
     oarloom_plan(rules, sizeof rules, answer, sizeof answer, 100000,
-                 &number, &place, &splits, &dead_ends);
-    printf("reply %" PRIu64 " at place %" PRIu64 ": %" PRIu64 " splits, %" PRIu64 " dead ends\n",
-           number, place, splits, dead_ends);
+                 &number, &place, &splits, &dead_ends, &rounds);
+    printf("reply %" PRIu64 " at place %" PRIu64 ": %" PRIu64 " splits, %" PRIu64 " dead ends, %" PRIu64
+           " rounds\n",
+           number, place, splits, dead_ends, rounds);
     if (number != OARLOOM_PLAN) {
         return 1;
     }

@@ -11,13 +11,13 @@
  * each with memory of its own.
  *
  * What each function answers and writes is proved for every argument; what is promised stands in
- * crates/linked/specs/Linked.antt and crates/sets/specs/Promise.antt. The proof ends at this
- * interface. The caller owes:
+ * crates/linked/specs/Linked.antt, crates/planner/specs/Most.antt and
+ * crates/sets/specs/Promise.antt. The proof ends at this interface. The caller owes:
  *
  *   - A slice is a pointer and a length, the number of its elements: that many bytes are there.
  *   - No pointer is NULL, not even that of a slice of length 0.
  *   - Memory that a function may write overlaps no other memory of the same call: the buffer, the
- *     four cells and the input all lie apart. Nothing else writes to any of them until it returns.
+ *     five cells and the input all lie apart. Nothing else writes to any of them until it returns.
  *   - A uint64_t cell is aligned as a uint64_t is, and may be read and written.
  *   - oarloom_plan has 8 MiB of stack. Most files need little, but the deepest searches need more
  *     than 4 MiB. A thread may have less than the program's first one: give it 8 MiB at its start.
@@ -79,7 +79,7 @@ enum oarloom_number {
  * Plans the file of rules whose bytes are input[0] to input[input_length - 1], with at most
  * `allowance` splits.
  *
- * All four cells are written, at every reply:
+ * All five cells are written, at every reply:
  *
  *   *number     the number of the reply, as listed above
  *   *place      13 to 20: where the field at fault starts, the index of its tag byte in `input`,
@@ -89,11 +89,15 @@ enum oarloom_number {
  *   *splits     0, 1 and 2: the splits that the search made, never more than `allowance`, and equal
  *               to it at 2; 0 at a refusal
  *   *dead_ends  0, 1 and 2: the dead ends that it met; 0 at a refusal
+ *   *rounds     0, 1 and 2: the rounds of shrinking that the first box took, before any split: each
+ *               goes once through all fields in the order of the file, and the last one, which
+ *               changes nothing or finds a field that cannot be met, counts. From 1 to what
+ *               oarloom_rounds_most answers for this input; 0 at a refusal
  *
  * Number 0 writes answer[0] to answer[v - 1], where v, the number of channels, is input[3]:
  * answer[i] is the relay of channel i + 1, from 1 to n, and n is input[4]. Bytes from answer[v] on
  * stay as they were. At every other number all bytes of `answer` stay as they were. What the cells
- * and the buffer held before plays no part in the reply. Nothing but the four cells and these bytes
+ * and the buffer held before plays no part in the reply. Nothing but the five cells and these bytes
  * of the buffer is written.
  *
  * 0 splits may be allowed: then only what needs no split is decided. The same arguments give the
@@ -102,7 +106,19 @@ enum oarloom_number {
 void oarloom_plan(const uint8_t *input, size_t input_length,
                   uint8_t *answer, size_t answer_length,
                   uint64_t allowance,
-                  uint64_t *number, uint64_t *place, uint64_t *splits, uint64_t *dead_ends);
+                  uint64_t *number, uint64_t *place, uint64_t *splits, uint64_t *dead_ends,
+                  uint64_t *rounds);
+
+/*
+ * The end of a progress bar: the most rounds that oarloom_plan can report for this input, whatever the
+ * buffer and the allowance. It is known before the work begins, from a check of the file alone, and
+ * writes no memory.
+ *
+ * For a file that is not refused it is v * (n - 1) + 1, from 1 to 1985, where v and n are input[3] and
+ * input[4]: every round but the last takes a relay away from some channel, and one stays at each. Some
+ * files take so many. 0 for an input that is refused by 10 or by 13 to 20.
+ */
+uint64_t oarloom_rounds_most(const uint8_t *input, size_t input_length);
 
 /* ---- Sets of the values 1 to 32 ----
  *

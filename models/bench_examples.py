@@ -1,7 +1,7 @@
-# Makes the stored output of `bench_examples`: 01's examples, files that tell readings of the place of a NONE (02, R-3)
-# and of step 4 (02, R-2) apart, and the ceilings, with the replies of the model. 01's "bytes from v on stay; all other
-# replies write nothing" is the word `kept` at the end of each line. Behind the line of a call stands what the program
-# prints for the file.
+# Makes the stored output of `bench_examples`: 01's examples, files that tell readings of the place of a NONE (02, R-3),
+# of the rounds (02, R-10) and of step 4 (02, R-2) apart, and the ceilings, with the replies of the model. 01's "bytes
+# from v on stay; all other replies write nothing" is the word `kept` at the end of each line. Behind the line of a call
+# stands what the program prints for the file, in which the rounds are not.
 import scope
 from writing import clause, equality, field, header
 
@@ -10,15 +10,22 @@ CASE_H = header(3, 3) + equality({1, 2, 3}, 1, 2, 3)
 CASE_L = header(3, 2) + b''.join(clause((2, {x}), (3, {y})) for x in (1, 2) for y in (1, 2))
 ROUND_TWO = header(2, 2) + clause((1, {2}), (2, {1})) + clause((1, {1})) + clause((2, {2}))
 AFTER_A_SPLIT = header(2, 3) + clause((1, {1, 2, 3})) + equality({1, 2, 3}, 1, 2)
+AT_THE_BOUND = header(3, 2) + clause((2, {1}), (3, {2})) + clause((1, {1}), (2, {2})) + clause((1, {2}))
+ROUNDS_THEN_SPLIT = header(3, 2) + clause((1, {2})) + clause((2, {1}), (3, {1}))
 # A file of 32,768 bytes: v 1, n 32, and 6552 atoms whose five bytes are all 1.
 LONGEST = header(1, 32) + field(2, bytes([1] * 5 * 6552))
 
 
-# The line of one call: the name, the reply's four numbers, the values of a plan.
+# The line of one call: the name, the reply's five numbers, the values of a plan.
 def show(name, file, allowance=1000000, lent=70):
-    number, place, splits, dead_ends, values = scope.reply(file, lent, allowance)
-    print(name, number, place, splits, dead_ends, *values, 'kept')
+    number, place, splits, dead_ends, rounds, values = scope.reply(file, lent, allowance)
+    print(name, number, place, splits, dead_ends, rounds, *values, 'kept')
     print(scope.printed(file), end='')
+
+
+# The line of the most rounds of an input: the name and the number.
+def show_most(name, file):
+    print(name, scope.rounds_most(file))
 
 
 # The starred cases.
@@ -58,6 +65,29 @@ show('equality-once-in-a-round', header(3, 3) + clause((1, {1, 2})) + clause((2,
 # Both halves are dead at the equality, at byte 13: a NONE with a split has place 0, and so has UNDECIDED.
 show('dead-after-a-split', AFTER_A_SPLIT)
 show('dead-after-a-split-allowance-0', AFTER_A_SPLIT, 0)
+
+# R-10: the rounds of the first box. A header alone takes the one round that changes nothing. Where every round but the
+# last cuts a single value, and the rooms end with one value each, the rounds are as many as there can be.
+show('rounds-header-alone', header(64, 32))
+show('rounds-at-the-bound', AT_THE_BOUND)
+# UNDECIDED has the rounds of the first box, and so has the PLAN that is found behind a split.
+show('rounds-undecided', ROUNDS_THEN_SPLIT, 0)
+show('rounds-of-the-first-box', ROUNDS_THEN_SPLIT)
+# The round that finds a dead field counts.
+show('rounds-dead-at-once', header(2, 2) + clause())
+# The first box takes one round, and the one behind the split, where the plan is, three.
+show('rounds-last-box-takes-more', header(3, 2) + clause((2, {1}), (3, {1})) + clause((1, {1}), (2, {2}))
+     + clause((1, {2}), (3, {2})))
+# Both cuts of the room are made in one round, so it takes one round fewer than the most.
+show('rounds-most-one-room', header(1, 3) + clause((1, {2, 3})) + clause((1, {3})))
+# The most rounds, which are known before the search: those of the header, and 0 for what is refused.
+show_most('most-header-alone', header(64, 32))
+show_most('most-at-the-bound', AT_THE_BOUND)
+show_most('most-one-value', header(64, 1))
+show_most('most-refused', header(65, 32))
+show_most('most-empty', b'')
+show_most('most-32768', LONGEST)
+show_most('most-32773', header(1, 32) + field(2, bytes([1] * 5 * 6553)))
 
 # Step 4 (02, R-2): case l with no split allowed; files whose position 1 has two values or more and is not split, for
 # the reason in the name; and one whose lowest live position stands in the later clause.

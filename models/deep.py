@@ -8,6 +8,6 @@ for p in range(1, 64):
     file += clause((p, {32}), (64, {1})) + clause((p, {32}), (64, {2}))
 file += clause((64, {1, 2}))
 
-# The reply's four numbers, then the 64 bytes of the answer, which were 0 before.
-number, place, splits, dead_ends, values = scope.reply(file, 64, 1000000)
-print(number, place, splits, dead_ends, *values, *[0] * (64 - len(values)))
+# The reply's five numbers, then the 64 bytes of the answer, which were 0 before.
+number, place, splits, dead_ends, rounds, values = scope.reply(file, 64, 1000000)
+print(number, place, splits, dead_ends, rounds, *values, *[0] * (64 - len(values)))

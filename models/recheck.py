@@ -105,7 +105,8 @@ def lines_of(printed):
     return re.findall('[^\n]*\n|[^\n]+', printed)
 
 
-# Takes what was printed apart. Only the program's own form is read: its words, single spaces, no line too many.
+# Takes what was printed apart. Only the program's own form is read: its words, single spaces, no line too many. The
+# rounds are not printed: the reply has None for them.
 def parse(printed):
     lines = lines_of(printed)
     if not lines:
@@ -123,8 +124,9 @@ def parse(printed):
     if kind == 'PLAN' and not VALUES_LINE.fullmatch(''.join(lines[1:])):
         raise Unreadable('PLAN has no line 2 of values with single spaces')
     if kind == 'REFUSED':
-        return scope.Reply(one, two, 0, 0, ())
-    return scope.Reply(KINDS[kind], place, one, two, tuple(int(word) for line in lines[1:] for word in line.split()))
+        return scope.Reply(one, two, 0, 0, None, ())
+    values = tuple(int(word) for line in lines[1:] for word in line.split())
+    return scope.Reply(KINDS[kind], place, one, two, None, values)
 
 
 # ---- What the reply says, held against the file

@@ -1,5 +1,6 @@
-# A model of documents 01 and 02 (R-2, R-3 and R-8), written from their text alone: reading a rule file, what rules
-# mean, the search step for step, the reply, and what the program prints. A set is a Python set of the values in it.
+# A model of documents 01 and 02 (R-2, R-3, R-8 and R-10), written from their text alone: reading a rule file, what
+# rules mean, the search step for step, the reply, and what the program prints. A set is a Python set of the values in
+# it.
 from collections import namedtuple
 
 # The ceilings.
@@ -13,9 +14,9 @@ PROGRAM_SPLITS = 100000
 
 # The replies that are not refusals.
 PLAN, NONE, UNDECIDED = 0, 1, 2
-# A reply. The place is that of a refusal, or of a NONE with no split (R-3), and else 0. The values are those of a
-# plan; every other reply has none.
-Reply = namedtuple('Reply', 'number place splits dead_ends values')
+# A reply. The place is that of a refusal, or of a NONE with no split (R-3), and else 0. The rounds are those of the
+# first box, and 0 for a refusal (R-10). The values are those of a plan; every other reply has none.
+Reply = namedtuple('Reply', 'number place splits dead_ends rounds values')
 
 # The fields of a rule file. A field's place is the offset of its tag byte.
 Header = namedtuple('Header', 'place v n')
@@ -203,21 +204,22 @@ def live_in(clause, rooms):
 
 
 # Step 1: rounds through the fields in file order, the clauses of each in 01's order and each room cut at once, until
-# a round cuts nothing. Every clause comes with the place of its field. Gives the rooms, and where the box is dead the
-# place of the field first found dead (R-3), one with a clause that has no live position; 0 where it is not dead.
+# a round cuts nothing. Every clause comes with the place of its field. Gives the rooms; where the box is dead the
+# place of the field first found dead (R-3), one with a clause that has no live position, and 0 where it is not dead;
+# and the rounds, of which the last one counts too: it cut nothing, or found a dead field (R-10).
 def shrink(clauses, rooms):
-    rooms, cut = dict(rooms), True
+    rooms, cut, rounds = dict(rooms), True, 0
     while cut:
-        cut = False
+        cut, rounds = False, rounds + 1
         for place, clause in clauses:
             live = live_in(clause, rooms)
             if not live:
-                return rooms, place
+                return rooms, place, rounds
             position, union = live[0]
             if len(live) == 1 and not rooms[position] <= union:
                 rooms[position] = rooms[position] & union
                 cut = True
-    return rooms, 0
+    return rooms, 0, rounds
 
 
 # Step 2: the clauses not yet settled, those that have no position whose room lies inside its union. The box is
@@ -241,27 +243,31 @@ def halves(rooms, position):
 
 # Steps 1 to 4 from the box of full rooms on. 01's search calls itself for each half; here the boxes that are still
 # to be searched wait in a list, the next one last, so that the second half waits until the first gave no plan. A NONE
-# with no split has met one box, the first, and has the place where that one is dead; any other has place 0 (R-3).
+# with no split has met one box, the first, and has the place where that one is dead; any other has place 0 (R-3). The
+# rounds are those of the first box, the one that is shrunk before any split (R-10).
 def search(header, rules, allowance):
     clauses = [(rule.place, united(atoms)) for rule in rules for atoms in clauses_of(rule)]
     full = frozenset(range(1, header.n + 1))
     waiting = [{position: full for position in range(1, header.v + 1)}]
     splits = dead_ends = 0
     while waiting:
-        rooms, dead_at = shrink(clauses, waiting.pop())
+        rooms, dead_at, rounds_here = shrink(clauses, waiting.pop())
+        if splits == 0:
+            rounds = rounds_here
         if dead_at > 0:
             dead_ends += 1
             continue
         left = unsettled(clauses, rooms)
         if not left:
-            return Reply(PLAN, 0, splits, dead_ends, tuple(min(rooms[position]) for position in sorted(rooms)))
+            values = tuple(min(rooms[position]) for position in sorted(rooms))
+            return Reply(PLAN, 0, splits, dead_ends, rounds, values)
         position = split_position(left, rooms)
         if splits == allowance:
-            return Reply(UNDECIDED, 0, splits, dead_ends, ())
+            return Reply(UNDECIDED, 0, splits, dead_ends, rounds, ())
         splits += 1
         first, second = halves(rooms, position)
         waiting += [second, first]
-    return Reply(NONE, dead_at if splits == 0 else 0, splits, dead_ends, ())
+    return Reply(NONE, dead_at if splits == 0 else 0, splits, dead_ends, rounds, ())
 
 
 # ---- Replies
@@ -282,8 +288,20 @@ def reply(file, buffer_length, allowance):
         check_call(file, buffer_length, allowance)
         header, rules = read(file)
     except Refused as refused:
-        return Reply(refused.number, refused.place, 0, 0, ())
+        return Reply(refused.number, refused.place, 0, 0, 0, ())
     return search(header, rules, allowance)
+
+
+# The most rounds of an input, known before the search (R-10): the sum over positions of starting size less one, plus
+# one. A round that is not the last cuts some room, and no room is cut to nothing. 0 where the input is refused, for
+# which neither buffer nor allowance plays a part.
+def rounds_most(file):
+    try:
+        check_call(file, LEAST_BUFFER, MOST_SPLITS)
+        header, rules = read(file)
+    except Refused:
+        return 0
+    return sum(header.n - 1 for position in range(header.v)) + 1
 
 
 # A reply as the lines that the program prints. The place of a NONE that has one is a fourth word (R-3).

@@ -1,11 +1,11 @@
-# Makes the expected output of `small_files` from the text of 01 and of 02's R-2 and R-3 alone: the same files by the
-# same generator, and a model of the refusals, of the meaning and of the search on Python's sets of values.
+# Makes the expected output of `small_files` from the text of 01 and of 02's R-2, R-3 and R-10 alone: the same files by
+# the same generator, and a model of the refusals, of the meaning and of the search on Python's sets of values.
 #
 # Every call of the planner that the program makes is made here too, in the same order, and the number, the place,
-# the splits and the dead ends of each go into the checksum one by one. So the calls are compared one for one, and
-# not by their totals alone, in which two errors could cancel.
+# the splits, the dead ends and the rounds of each go into the checksum one by one. So the calls are compared one for
+# one, and not by their totals alone, in which two errors could cancel.
 import sys
-from itertools import product
+from itertools import count, product
 
 P = 2147483647
 SIZES = [5329, 4641, 3136, 4380, 8000, 5456, 6000, 3000, 3000, 1000]
@@ -137,7 +137,8 @@ def first(v, n, rules):
         if all(met(r, a) for r in rules): return a
     return None
 
-# ---- 01, "The search, step for step", with step 4 as 02 has it (R-2) and the place of the field first found dead (R-3)
+# ---- 01, "The search, step for step", with step 4 as 02 has it (R-2), the place of the field first found dead (R-3)
+# and the rounds of the first box (R-10)
 def united(c):
     union = {}
     for p, s in c: union[p] = union.get(p, frozenset()) | s
@@ -150,7 +151,8 @@ def as_clauses(r):
     return r[-1], [united(c) for c in cs]
 
 class Stop(Exception): pass
-# The place is that of the first box where shrinking finds it dead, and else 0, as in every search that splits.
+# The place is that of the first box where shrinking finds it dead, and else 0, as in every search that splits. The
+# rounds are those of the first box, the one that is shrunk before any split.
 class Search:
     def __init__(self, v, n, rules, allowed):
         self.fields, self.allowed, self.splits, self.dead = [as_clauses(r) for r in rules], allowed, 0, 0
@@ -166,17 +168,18 @@ class Search:
             if not live: return True
             if len(live) == 1: rooms[live[0] - 1] &= u[live[0]]
         return False
-    # The fields in file order, over and over: the place of the field first found dead, 0 where a round changes nothing.
+    # The fields in file order, over and over: the place of the field first found dead, 0 where a round changes nothing;
+    # and the rounds up to that one, which counts.
     def shrink(self, rooms):
-        while True:
+        for rounds in count(1):
             before = list(rooms)
             for place, us in self.fields:
-                if self.look(us, rooms): return place
-            if rooms == before: return 0
+                if self.look(us, rooms): return place, rounds
+            if rooms == before: return 0, rounds
     def box(self, rooms):
         rooms = list(rooms)
-        dead_at = self.shrink(rooms)
-        if self.splits == 0: self.place = dead_at
+        dead_at, rounds = self.shrink(rooms)
+        if self.splits == 0: self.place, self.rounds = dead_at, rounds
         if dead_at: self.dead += 1; return None
         left = [u for u in self.cs if not any(rooms[p - 1] <= u[p] for p in u)]
         if not left: return tuple(min(r) for r in rooms)
@@ -188,7 +191,7 @@ class Search:
 
 # ---- 01, "Replies": the reply to one call of the planner
 class Refused:
-    plan, splits, dead = None, 0, 0
+    plan, splits, dead, rounds = None, 0, 0, 0
     def __init__(self, number, place): self.number, self.place = number, place
 
 MOST = 1000000
@@ -200,13 +203,15 @@ def plan(file, length, allowance):
     return Refused(*r[1:]) if r[0] == 'refused' else Search(*r[1:], allowance)
 
 # ---- the program's counts
-T = dict.fromkeys([0, 1, 2] + list(range(10, 21)) + ['files', 'damaged', 'splits', 'dead', 'places', 'checksum', 'comparisons'], 0)
+T = dict.fromkeys([0, 1, 2] + list(range(10, 21)) + ['files', 'damaged', 'splits', 'dead', 'places', 'rounds', 'checksum', 'comparisons'], 0)
 hist = {}
 
 def ask(file, length=64, allowance=MOST):
     s = plan(file, length, allowance)
-    T[s.number] += 1; T['splits'] += s.splits; T['dead'] += s.dead; T['places'] += s.place; T['comparisons'] += 1
-    for x in (s.number, s.place, s.splits, s.dead): T['checksum'] = (T['checksum'] * 1000003 + x + 1) % 4294967296
+    T[s.number] += 1; T['splits'] += s.splits; T['dead'] += s.dead; T['places'] += s.place; T['rounds'] += s.rounds
+    T['comparisons'] += 1
+    for x in (s.number, s.place, s.splits, s.dead, s.rounds): T['checksum'] = (T['checksum'] * 1000003 + x + 1) % 4294967296
+    assert s.rounds == 0 if s.number >= 10 else s.rounds >= 1
     return s
 
 def judge(file, origin=False):
@@ -227,17 +232,19 @@ def judge(file, origin=False):
     if s.number == 1: assert s.dead == s.splits + 1
     if s.number == 0: assert s.dead <= s.splits
     assert s.place in [r[-1] for r in rules] if s.number == 1 and s.splits == 0 else s.place == 0
+    assert 1 <= s.rounds <= v * (n - 1) + 1
     return s
 
 def one(src, file, number):
     T['files'] += 1; T['comparisons'] += 1
     assert len(file) < 256
     full = judge(file, True)
-    whole = lambda s: (s.number, s.place, s.plan, s.splits, s.dead)
+    whole = lambda s: (s.number, s.place, s.plan, s.splits, s.dead, s.rounds)
     same = lambda s: whole(s) == whole(full)
     for a in range(0, min(full.splits, 99) + 2):
         s = ask(file, 64, a)
         assert (s.number == 2 and s.place == 0 and s.splits == a and s.dead <= a) if a < full.splits else same(s)
+        assert s.rounds == full.rounds
     if number % 100 == 0:
         judge(file, True)
         for length in range(60, 69):
@@ -269,7 +276,7 @@ judge(header(64, 1) + field(3, bytes([0, 0, 0, 1] + [1] * 64))); judge(header(64
 print('files', T['files']); print('damaged files', T['damaged'])
 print('PLAN', T[0]); print('NONE', T[1]); print('UNDECIDED', T[2])
 for i in range(10, 21): print('refused, %d: %d' % (i, T[i]))
-print('splits', T['splits']); print('dead ends', T['dead']); print('places', T['places'])
+print('splits', T['splits']); print('dead ends', T['dead']); print('places', T['places']); print('rounds', T['rounds'])
 print('checksum', T['checksum']); print('comparisons', T['comparisons']); print('differences 0')
 if STATS:
     for k in sorted(hist, key=str): print(k, hist[k], file=sys.stderr)

@@ -13,9 +13,9 @@ pub(crate) fn all() {
     high_allowances();
 }
 
-// An input of 32,769 bytes, and its first 32,768, which are a sound file: v 1, n 32, and a clause of
-// 6552 atoms, each position 1 with the values 1, 9, 17 and 25. Every byte not named here is 1.
-fn input_length() {
+// A sound file of 32,768 bytes, the most that there may be, and one byte more. The file has v 1, n 32, and
+// a clause of 6552 atoms, each position 1 with the values 1, 9, 17 and 25. Every byte not named here is 1.
+pub(crate) fn longest_and_one() -> [u8; 32769] {
     let mut file = [1; 32769];
     file[1] = 0;
     file[2] = 2;
@@ -23,8 +23,14 @@ fn input_length() {
     file[5] = 2;
     file[6] = 127;
     file[7] = 248;
+    file
+}
+
+// An input of 32,769 bytes, and its first 32,768.
+fn input_length() {
+    let file = longest_and_one();
     show(b"input-32769", &file, 1_000_000, 1);
-    show(b"input-32768", &file[..32768], 1_000_000, 1);
+    show(b"input-32768", &file[0..32768], 1_000_000, 1);
 }
 
 // Buffers of 63, 0 and 64 bytes for a plan of 64 values.

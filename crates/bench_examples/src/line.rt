@@ -1,9 +1,11 @@
-// What is shown of one file: the line of a call of `plan`, and what the program prints for the file.
+// What is shown of one file: the line of a call of `plan`, and what the program prints for the file; or the
+// most rounds that the file can take.
 ghost use Prim.Native.Nat.{_≤_};
 ghost use lib.ListN.{length};
 use libc::STDOUT_FILENO;
 use lines::answer::answer;
 use planner::plan::plan;
+use planner::rounds::rounds_most;
 use searching::reply::Reply;
 use streams::put;
 
@@ -30,6 +32,13 @@ pub(crate) fn show_lent(name: &[u8], input: &[u8], lent: usize, allowance: u64, 
         io::write_all(STDOUT_FILENO, b" touched\n");
     }
     printed(input);
+}
+
+// Prints a line with the name and the most rounds of an input, by `rounds_most`.
+pub(crate) fn show_most(name: &[u8], input: &[u8]) {
+    io::write_all(STDOUT_FILENO, name);
+    spaced(rounds_most(input));
+    io::write_all(STDOUT_FILENO, b"\n");
 }
 
 // What the program prints for a file, by the function that it calls.
@@ -74,8 +83,8 @@ fn kept(buffer: &[u8; 70], from: usize) -> bool {
     true
 }
 
-// Prints the number, the place, the splits and the dead ends of a reply, and answers how many
-// bytes of the buffer it may write: v for a plan, and none for every other reply.
+// Prints the number, the place, the splits, the dead ends and the rounds of a reply, and answers how
+// many bytes of the buffer it may write: v for a plan, and none for every other reply.
 fn numbers(reply: Reply, v: usize) -> usize
     ensures { λ r. ⌜ r ≤ v ⌝ }
 {
@@ -84,6 +93,7 @@ fn numbers(reply: Reply, v: usize) -> usize
     spaced(reply.place as u64);
     spaced(reply.splits);
     spaced(reply.dead_ends);
+    spaced(reply.rounds);
     if number == Reply::PLAN { v } else { 0 }
 }
 

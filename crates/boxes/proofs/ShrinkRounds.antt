@@ -1,11 +1,11 @@
 -- Laws of rounds and of shrinking over the first v rooms of an array: what is still to be done, and what is left. Assumes nothing.
-use mathlib.Core.Path.{_≡_, refl, sym, ap, _∙_, subst}
+use mathlib.Core.Path.{_≡_, refl, sym, ap, ap₂, _∙_, subst}
 use mathlib.Core.Bool.{Bool, true, false}
 use mathlib.Core.List.{List, _++_}
-use Prim.Native.Nat.{ℕ, suc, _+_, _≤_, _<_}
+use Prim.Native.Nat.{ℕ, _+_, _≤_, _<_}
 use native.Mathlib.Omega.{arith}
 use lib.Dec.{T}
-use lib.ListN.{length, take, drop, replicate, take-append-drop}
+use lib.ListN.{length, take, drop, replicate, length-take, take-append-drop}
 use Rattle.rules.specs.Rules.{Field}
 use Rattle.rules.specs.declared.field.Head.{Head}
 use Rattle.rules.specs.Reading.{ruleAt}
@@ -13,12 +13,15 @@ use Rattle.rules.specs.Sound.{fieldsIn, SoundInput}
 use Rattle.rules.specs.Walk.{Walk}
 use Rattle.rules.proofs.Reading.WalkLaws.{walk-start, walk-end, FieldHere}
 use Rattle.steps.specs.Boxes.{openValues, BoxInside, Rooms}
-use Rattle.steps.specs.Shrinking.{Look, dead, alive, ifAlive, ifTest, lookRule, lookField, round, sameRooms, shrink, shrunk}
+use Rattle.steps.specs.Shrinking.{Look, dead, alive, lookRule, lookField, round, sameRooms, shrunk}
+use Rattle.steps.specs.Rounds.{roundsOf, roundsMost}
 use Rattle.steps.proofs.Boxes.BoxLaws.{box-inside-length, same-rooms-iff}
-use Rattle.steps.proofs.Boxes.BoxSizes.{open-falls}
+use Rattle.steps.proofs.Boxes.BoxSizes.{open-falls, spare-most}
 use Rattle.lists.proofs.FrontParts.{front-placed}
+use Rattle.lists.proofs.TestLaws.{true-test}
 use Rattle.steps.proofs.Looks.RuleLaws.{rule-place}
-use Rattle.steps.proofs.Looks.ShrinkLaws.{round-inside, shrink-enough}
+use Rattle.steps.proofs.Looks.ShrinkLaws.{round-inside}
+use Rattle.steps.proofs.Looks.RoundLaws.{rounds-least, rounds-bound, round-dies, round-rests, round-goes}
 use Rattle.clauses.specs.Looks.{AfterLook, Leaves}
 use Rattle.boxes.specs.declared.shrink.Verdict.{Verdict}
 use Rattle.boxes.specs.declared.shrink.Verdict.the-variants.{Alive, Dead}
@@ -64,49 +67,47 @@ module _ {s : List ℕ} {v : ℕ} {start rooms : List ℕ} {at : ℕ} (going : G
 
 -- ---- shrinking
 
-module _ (fields : List Field) (box : List ℕ) where
-  -- the first round, and then the others
-  shrunk-first : (l : Look) → round fields box ≡ l
-      → shrunk fields box ≡ ifAlive l (λ p. dead p) (λ box′. ifTest (sameRooms box′ box) (alive box′) (λ _. shrink (openValues box) fields box′))
-  unfolding shrunk shrink
-  shrunk-first l e = ap (λ (k : Look). ifAlive k (λ p. dead p) (λ box′. ifTest (sameRooms box′ box) (alive box′) (λ _. shrink (openValues box) fields box′))) e
-
-  module _ (b : List ℕ) (e : round fields box ≡ alive b) where
-    tested : (t : Bool) → sameRooms b box ≡ t → shrunk fields box ≡ ifTest t (alive b) (λ _. shrink (openValues box) fields b)
-    tested t f = shrunk-first (alive b) e ∙ ap (λ (c : Bool). ifTest c (alive b) (λ _. shrink (openValues box) fields b)) f
-
-    module _ (rooms : Rooms box) where
-      -- a round leaves a smaller box
-      round-inward : BoxInside b box × Rooms b
-      round-inward = round-inside fields box b rooms e
-
-      module _ (f : sameRooms b box ≡ false) where
-        -- a round that changes something takes an open value away
-        round-falls : openValues b < openValues box
-        round-falls = open-falls b box (round-inward .1) rooms (round-inward .0) (λ same. subst T f (same-rooms-iff b box .1 same))
-
-        -- what comes after it is shrinking what it left
-        shrunk-on : shrunk fields box ≡ shrunk fields b
-        unfolding shrunk
-        shrunk-on = tested false f ∙ shrink-enough fields b (openValues box) (suc (openValues b)) (round-inward .1) round-falls (omega arith)
-
--- shrinking the first v rooms has come to these rooms: shrinking them makes the whole of it
-pub record Cutting (s : List ℕ) (v : ℕ) (start rooms : List ℕ) : Type 0 where
+-- shrinking the first v rooms has come to these rooms, and to the round of this number: shrinking them makes the whole of it
+pub record Cutting (s : List ℕ) (v : ℕ) (start rooms : List ℕ) (rounds : ℕ) : Type 0 where
   pub whole : shrunk (fieldsIn s) (take v start) ≡ shrunk (fieldsIn s) (take v rooms)
+  pub counted : roundsOf (fieldsIn s) (take v start) + 1 ≡ rounds + roundsOf (fieldsIn s) (take v rooms)
   pub fine : Rooms (take v rooms)
   pub others : drop v rooms ≡ drop v start
 
-module _ {s : List ℕ} {v : ℕ} {start rooms : List ℕ} (cutting : Cutting s v start rooms) {r : Verdict} {after : List ℕ} (rounded : Rounded s v rooms r after) where
+-- it starts with the first
+pub cutting-start : (s : List ℕ) (v : ℕ) (rooms : List ℕ) → Rooms (take v rooms) → Cutting s v rooms rooms 1
+cutting-start s v rooms full = record { whole = refl; counted = omega arith; fine = full; others = refl }
+
+-- there never are many rounds
+pub rounds-small : {s : List ℕ} {v : ℕ} {start rooms : List ℕ} {rounds : ℕ} → v ≤ 64 → Rooms (take v start) → Cutting s v start rooms rounds → rounds ≤ 1985
+unfolding roundsMost
+rounds-small {s} {v} {start} {rooms} {rounds} few full cutting =
+    let long : length (take v start) ≤ 64 = omega (arith, length-take v start) in
+    omega (
+      arith,
+      cutting .counted,
+      rounds-least (fieldsIn s) (take v rooms) (cutting .fine),
+      rounds-bound (fieldsIn s) (take v start) full,
+      spare-most (take v start) full,
+    )
+
+module _ {s : List ℕ} {v : ℕ} {start rooms : List ℕ} {rounds : ℕ} (cutting : Cutting s v start rooms rounds) {r : Verdict} {after : List ℕ} (rounded : Rounded s v rooms r after) where
   abbrev fields : List Field
   fields = fieldsIn s
 
+  -- the answer, where shrinking these rooms takes one round and comes to l
+  answered : (l : Look) → (shrunk fields (take v rooms) ≡ l) × (roundsOf fields (take v rooms) ≡ 1)
+      → shrunkRooms (shrunk fields (take v start)) (drop v start) (roundsOf fields (take v start)) ≡ shrunkRooms l (drop v start) rounds
+  answered l last = ap₂ (λ (m : Look) (k : ℕ). shrunkRooms m (drop v start) k) (cutting .whole ∙ last .0) (omega (arith, cutting .counted, last .1))
+
   -- where the next round is dead, so is the whole
-  pub cutting-dead : (p : ℕ) → r ≡ Dead p → record { verdict = Dead p; rooms = replicate 64 0 } ≡ shrunkRooms (shrunk fields (take v start)) (drop v start)
+  pub cutting-dead : (p : ℕ) → r ≡ Dead p
+      → record { verdict = Dead p; rooms = replicate 64 0; rounds = rounds } ≡ shrunkRooms (shrunk fields (take v start)) (drop v start) (roundsOf fields (take v start))
   unfolding shrunkRooms
   cutting-dead p e =
       let d = after-dead Dead Alive (round fields (take v rooms)) r after (drop v rooms) (rounded .leaves) (λ f. let z : _≡_ {A = ℕ} 0 1 = cc in omega arith) in
       let same : d .0 ≡ p = let f = d .2 in cc in
-      sym (ap (λ (l : Look). shrunkRooms l (drop v start)) (cutting .whole ∙ shrunk-first fields (take v rooms) (dead p) (d .1 ∙ ap dead same)))
+      sym (answered (dead p) (round-dies fields (take v rooms) (cutting .fine) p (d .1 ∙ ap dead same)))
 
   module _ (lives : r ≡ Alive) where
     found : (box : List ℕ) × (round fields (take v rooms) ≡ alive box) × (after ≡ box ++ drop v rooms)
@@ -114,7 +115,7 @@ module _ {s : List ℕ} {v : ℕ} {start rooms : List ℕ} (cutting : Cutting s 
 
     kept : (take v after ≡ found .0) × (drop v after ≡ drop v rooms)
     kept =
-        let i = round-inward fields (take v rooms) (found .0) (found .1) (cutting .fine) in
+        let i = round-inside fields (take v rooms) (found .0) (cutting .fine) (found .1) in
         let f = front-placed v (found .0) rooms (box-inside-length (found .0) (take v rooms) (i .0)) in
         (ap (take v) (found .2) ∙ f .0, ap (drop v) (found .2) ∙ f .1)
 
@@ -124,23 +125,27 @@ module _ {s : List ℕ} {v : ℕ} {start rooms : List ℕ} (cutting : Cutting s 
 
     -- where the next round changes nothing, its rooms are the answer
     pub cutting-done : sameRooms (take v after) (take v rooms) ≡ true
-        → record { verdict = Alive; rooms = after } ≡ shrunkRooms (shrunk fields (take v start)) (drop v start)
+        → record { verdict = Alive; rooms = after; rounds = rounds } ≡ shrunkRooms (shrunk fields (take v start)) (drop v start) (roundsOf fields (take v start))
     unfolding shrunkRooms
     cutting-done t =
-        let e = cutting .whole ∙ tested fields (take v rooms) (take v after) next-round true t in
-        let others = kept .1 ∙ cutting .others in
-        sym (ap (λ (l : Look). shrunkRooms l (drop v start)) e
-        ∙ ap (λ (l : List ℕ). record { verdict = Alive; rooms = l }) (ap (λ (l : List ℕ). take v after ++ l) (sym others) ∙ take-append-drop v after))
+        let same : take v after ≡ take v rooms = same-rooms-iff (take v after) (take v rooms) .0 (true-test (sameRooms (take v after) (take v rooms)) t) in
+        let last = round-rests fields (take v rooms) (cutting .fine) (next-round ∙ ap alive same) in
+        let all : take v rooms ++ drop v start ≡ after = ap₂ _++_ (sym same) (sym (kept .1 ∙ cutting .others)) ∙ take-append-drop v after in
+        sym (answered (alive (take v rooms)) last ∙ ap (λ (l : List ℕ). record { verdict = Alive; rooms = l; rounds = rounds }) all)
 
     module _ (t : sameRooms (take v after) (take v rooms) ≡ false) where
+      changed : take v after ≡ take v rooms → ⊥
+      changed same = subst T t (same-rooms-iff (take v after) (take v rooms) .1 same)
+
+      inward : BoxInside (take v after) (take v rooms) × Rooms (take v after)
+      inward = round-inside fields (take v rooms) (take v after) (cutting .fine) next-round
+
       -- else an open value is gone
       pub cutting-falls : openValues (take v after) < openValues (take v rooms)
-      cutting-falls = round-falls fields (take v rooms) (take v after) next-round (cutting .fine) t
+      cutting-falls = open-falls (take v after) (take v rooms) (inward .1) (cutting .fine) (inward .0) changed
 
       -- and shrinking goes on with its rooms
-      pub cutting-on : Cutting s v start after
-      cutting-on = record {
-        whole = cutting .whole ∙ shrunk-on fields (take v rooms) (take v after) next-round (cutting .fine) t;
-        fine = round-inward fields (take v rooms) (take v after) next-round (cutting .fine) .1;
-        others = kept .1 ∙ cutting .others;
-      }
+      pub cutting-on : Cutting s v start after (rounds + 1)
+      cutting-on =
+          let on = round-goes fields (take v rooms) (cutting .fine) (take v after) next-round changed in
+          record { whole = cutting .whole ∙ on .0; counted = omega (arith, cutting .counted, on .1); fine = inward .1; others = kept .1 ∙ cutting .others }

@@ -1,4 +1,4 @@
--- What a round leaves, and what shrinking answers: a verdict, and rooms in an array of 64. Assumes nothing.
+-- What a round leaves, and what shrinking answers: a verdict, rooms in an array of 64, and how many rounds it took. Assumes nothing.
 use Prim.Native.Nat.{ℕ}
 use mathlib.Core.List.{List, _++_}
 use lib.ListN.{take, drop, replicate}
@@ -13,7 +13,7 @@ use Rattle.boxes.specs.declared.shrink.Shrunk.{Shrunk}
 pub record Rounded (input : List ℕ) (v : ℕ) (before : List ℕ) (r : Verdict) (after : List ℕ) : Type 0 where
   pub leaves : AfterLook Dead Alive (round (fieldsIn input) (take v before)) r after (drop v before)
 
--- the verdict and the rooms that shrinking answers: where it is dead no room has a value
-unfoldable pub shrunkRooms : Look → List ℕ → Shrunk
-shrunkRooms (dead place) rest = record { verdict = Dead place; rooms = replicate 64 0 }
-shrunkRooms (alive box) rest = record { verdict = Alive; rooms = box ++ rest }
+-- the verdict, the rooms and the rounds that shrinking answers: where it is dead no room has a value
+unfoldable pub shrunkRooms : Look → List ℕ → ℕ → Shrunk
+shrunkRooms (dead place) rest rounds = record { verdict = Dead place; rooms = replicate 64 0; rounds = rounds }
+shrunkRooms (alive box) rest rounds = record { verdict = Alive; rooms = box ++ rest; rounds = rounds }

@@ -27,10 +27,11 @@ pub enum Verdict {
     Dead(usize),
 }
 
-// The verdict, and the rooms of a box that lives.
+// The verdict, the rooms of a box that lives, and the rounds that shrinking took.
 pub struct Shrunk {
     pub verdict: Verdict,
     pub rooms: [u32; Room::POSITIONS],
+    pub rounds: u64,
 }
 
 // Looks at the field that starts at `at`: false where it is dead; else its cuts are made.
@@ -90,12 +91,15 @@ pub(crate) fn same(a: &[u32; Room::POSITIONS], b: &[u32; Room::POSITIONS], v: us
 }
 
 // Shrinks the box of the first v rooms under the rules of a sound file: the rooms as they are where
-// nothing is left to cut, or the place of the field first found dead, with no rooms.
+// nothing is left to cut, or the place of the field first found dead, with no rooms. The last round
+// counts too, whether it changes nothing or finds a dead field.
 pub fn shrink(input: &[u8], v: usize, rooms: [u32; Room::POSITIONS]) -> Shrunk
     requires { ⌜ SoundInput (now input) v × Rooms (take v rooms) ⌝ }
     ensures { λ r. ⌜ Shrinks (now (input .entry)) v rooms r ⌝ }
 {
     let mut next = rooms;
+    // The number of the round that is gone through.
+    let mut rounds = 1;
     loop {
         let before = next;
         let verdict = look_round(input, v, &mut next);
@@ -103,13 +107,16 @@ pub fn shrink(input: &[u8], v: usize, rooms: [u32; Room::POSITIONS]) -> Shrunk
             return Shrunk {
                 verdict: Verdict::Dead(place),
                 rooms: [0u32; Room::POSITIONS],
+                rounds,
             };
         }
         if same(&next, &before, v) {
             return Shrunk {
                 verdict: Verdict::Alive,
                 rooms: next,
+                rounds,
             };
         }
+        rounds += 1;
     }
 }

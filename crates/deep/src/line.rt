@@ -2,12 +2,13 @@
 use libc::STDOUT_FILENO;
 use searching::reply::Reply;
 
-// Prints the reply's number, place, splits and dead ends, and then every byte of the answer.
+// Prints the reply's number, place, splits, dead ends and rounds, and then every byte of the answer.
 pub(crate) fn show(reply: Reply, answer: &[u8; 64]) {
     io::print_decimal(STDOUT_FILENO, reply.number as u64);
     spaced(reply.place as u64);
     spaced(reply.splits);
     spaced(reply.dead_ends);
+    spaced(reply.rounds);
     values(answer);
     io::write_all(STDOUT_FILENO, b"\n");
 }

@@ -1,4 +1,4 @@
--- Two inputs for which the same text is printed have the same reply, `printed-apart`, and plans the same values, `printed-values-apart`. Assumes nothing.
+-- Two inputs for which the same text is printed have the same reply but for its rounds, `printed-apart`, and plans the same values, `printed-values-apart`. Assumes nothing.
 use mathlib.Core.Path.{_≡_, refl, sym, ap, _∙_, subst}
 use mathlib.Core.List.{List}
 use Prim.Native.Nat.{ℕ, _^_, _≤_, _<_}
@@ -22,16 +22,17 @@ use Rattle.texts.specs.Grown.{shown}
 use Rattle.texts.proofs.GrownLaws.{shown-line}
 use Rattle.lines.specs.Text.{textOf}
 use Rattle.lines.specs.Printed.{Printed, positionsOf}
+use Rattle.lines.specs.ReadBack.{printedPart}
 use Rattle.lines.proofs.ReadBack.{Printable, ends, refuses, Few, texts-apart, values-apart}
 
--- every reply that the planner promises can be read back
-pub promised-printable : (input before after : List ℕ) (allowed : ℕ) (r : Reply) → Planned input before after allowed r → Printable r
+-- every reply that the planner promises can be read back, but for its rounds
+pub promised-printable : (input before after : List ℕ) (allowed : ℕ) (r : Reply) → Planned input before after allowed r → Printable (printedPart r)
 unfolding ofReading
 promised-printable input before after allowed r promised =
-    subst Printable (sym (promised .answered .reply))
-    (of-every-reply input (length before) allowed (λ g. r ≡ told g → Printable (told g)) (λ number low high is. refuses number 0 (omega arith) (omega arith) (omega arith)) read (promised .answered .reply))
+    subst (λ (s : Reply). Printable (printedPart s)) (sym (promised .answered .reply))
+    (of-every-reply input (length before) allowed (λ g. r ≡ told g → Printable (printedPart (told g))) (λ number low high is. refuses number 0 (omega arith) (omega arith) (omega arith)) read (promised .answered .reply))
   where
-    read : (found : Reading) → reading input ≡ found → length input ≤ 32768 → 64 ≤ length before → allowed ≤ 1000000 → r ≡ told (ofReading found allowed) → Printable (told (ofReading found allowed))
+    read : (found : Reading) → reading input ≡ found → length input ≤ 32768 → 64 ≤ length before → allowed ≤ 1000000 → r ≡ told (ofReading found allowed) → Printable (printedPart (told (ofReading found allowed)))
     read (sound file) e short roomy modest is =
         let accepted : Accepted input before allowed file = record { short = short; roomy = roomy; modest = modest; read = e } in
         let low = promised .decided file accepted in
@@ -49,14 +50,15 @@ promised-printable input before after allowed r promised =
 valuesIn : (input : List ℕ) {output : Output} → Printed input output → List ℕ
 valuesIn input p = take (positionsOf (reading input)) (p .after)
 
--- one text is the text of both replies
+-- one text is the text of both replies, whatever their rounds
 both-texts : (input other : List ℕ) (a b : Output) (p : Printed input a) (q : Printed other b) → a .printed ≡ b .printed
-    → textOf (p .reply) (valuesIn input p) ≡ textOf (q .reply) (valuesIn other q)
-unfolding valuesIn
+    → textOf (printedPart (p .reply)) (valuesIn input p) ≡ textOf (printedPart (q .reply)) (valuesIn other q)
+unfolding valuesIn textOf
 both-texts input other a b p q same = sym (shown-line _) ∙ ap shown (sym (p .printed) ∙ same ∙ q .printed) ∙ shown-line _
 
--- the same text, the same reply
-pub printed-apart : (input other : List ℕ) (a b : Output) (p : Printed input a) (q : Printed other b) → a .printed ≡ b .printed → p .reply ≡ q .reply
+-- the same text, the same reply but for its rounds
+pub printed-apart : (input other : List ℕ) (a b : Output) (p : Printed input a) (q : Printed other b) → a .printed ≡ b .printed
+    → printedPart (p .reply) ≡ printedPart (q .reply)
 printed-apart input other a b p q same =
     texts-apart (valuesIn input p) (valuesIn other q) (promised-printable input (replicate 64 0) (p .after) 100000 (p .reply) (p .planned))
     (promised-printable other (replicate 64 0) (q .after) 100000 (q .reply) (q .planned)) (both-texts input other a b p q same)
@@ -92,7 +94,7 @@ pub printed-values-apart : (input other : List ℕ) (a b : Output) (p : Printed 
 unfolding valuesIn
 printed-values-apart input other a b p q same bytes also plan =
     let too : q .reply .number ≡ 0 = ap (λ (r : Reply). r .number) (sym (printed-apart input other a b p q same)) ∙ plan in
-    values-apart (p .reply) (q .reply) (valuesIn input p) (valuesIn other q) plan too
+    values-apart (printedPart (p .reply)) (printedPart (q .reply)) (valuesIn input p) (valuesIn other q) plan too
     (plan-values input (p .after) (p .reply) bytes (p .planned) plan (reading input) refl)
     (plan-values other (q .after) (q .reply) also (q .planned) too (reading other) refl)
     (both-texts input other a b p q same)

@@ -17,8 +17,8 @@ use Rattle.lines.specs.Text.{firstLine, noneLine, textOf}
 
 -- the text of a reply whose number is known
 pub text-known : (r : Reply) (values : List ℕ) {number : ℕ} → r .number ≡ number
-    → textOf r values ≡ textOf (record { number = number; place = r .place; splits = r .splits; «dead_ends» = r .«dead_ends» }) values
-text-known r values known = ap (λ (n : ℕ). textOf (record { number = n; place = r .place; splits = r .splits; «dead_ends» = r .«dead_ends» }) values) known
+    → textOf r values ≡ textOf (record { number = number; place = r .place; splits = r .splits; «dead_ends» = r .«dead_ends»; rounds = r .rounds }) values
+text-known r values known = ap (λ (n : ℕ). textOf (record { number = n; place = r .place; splits = r .splits; «dead_ends» = r .«dead_ends»; rounds = r .rounds }) values) known
 
 -- the text of any other reply than PLAN, NONE and UNDECIDED
 pub text-refused : (r : Reply) (values : List ℕ) → 2 < r .number → textOf r values ≡ firstLine (bytesOf "REFUSED") (r .number ∷ r .place ∷ [])

@@ -27,3 +27,7 @@ replyIn words =
 -- the numbers behind the first three words
 unfoldable pub numbersIn : List (List ℕ) → List ℕ
 numbersIn words = map numberIn (drop 3 words)
+
+-- what a text tells of a reply: all but its rounds, which are not printed
+abbrev pub printedPart : Reply → Reply
+printedPart r = record { number = r .number; place = r .place; splits = r .splits; «dead_ends» = r .«dead_ends»; rounds = 0 }

@@ -13,14 +13,15 @@ use Rattle.steps.specs.Table.{ofReading}
 use Rattle.searching.specs.declared.reply.Reply.{Reply}
 use Rattle.searching.specs.Answered.{told}
 use Rattle.planner.specs.Promise.{Planned}
-use Rattle.planner.proofs.ReplyLaws.{of-every-reply, read-counts}
+use Rattle.planner.proofs.ReplyLaws.{of-every-reply, read-counts, read-rounds}
 use Rattle.planner.proofs.UnmetField.{place-within}
 
--- a place within the longest input, no more splits than may be allowed, and at most one dead end more; one more in NONE
+-- a place within the longest input, no more splits than may be allowed, and at most one dead end more; one more in NONE; and no more rounds than 64 * 31 + 1
 pub record Limited (r : Reply) : Type 0 where
   pub place : r .place ≤ 32768
   pub splits : r .splits ≤ 1000000
   pub deadEnds : r .«dead_ends» ≤ 1000001
+  pub rounds : r .rounds ≤ 1985
   pub none : r .number ≡ 1 → r .«dead_ends» ≡ r .splits + 1
 
 -- the reply to what was read
@@ -33,6 +34,7 @@ read-limited input allowed (sound file) read modest near =
       place = near;
       splits = omega (arith, counts .within);
       deadEnds = omega (arith, counts .within, counts .fewer);
+      rounds = read-rounds input file read allowed;
       none = λ e. omega (arith, counts .none e);
     }
 read-limited input allowed (refused number place) read modest near =
@@ -40,6 +42,7 @@ read-limited input allowed (refused number place) read modest near =
       place = near;
       splits = omega arith;
       deadEnds = omega arith;
+      rounds = omega arith;
       none = λ e. absurd (omega (arith, refused-number input number place read));
     }
 
@@ -56,7 +59,7 @@ module _ (input before after : List ℕ) (allowed : ℕ) (r : Reply) (promised :
   reply-limits =
       subst Limited (sym (promised .answered .reply))
       (of-every-reply input (length before) allowed (λ g. r ≡ told g → Limited (told g))
-      (λ number low high is. record { place = omega arith; splits = omega arith; deadEnds = omega arith; none = λ e. absurd (omega arith) })
+      (λ number low high is. record { place = omega arith; splits = omega arith; deadEnds = omega arith; rounds = omega arith; none = λ e. absurd (omega arith) })
       (λ found read short roomy modest is.
       let near = read-near found read short roomy modest is in
       read-limited input allowed found read modest (omega (arith, ap (λ (q : Reply). q .place) is)))

@@ -1,6 +1,8 @@
 pub mod EveryReply
+pub mod MostLaws
 pub mod PromiseLaws
 pub mod ReplyLaws
+pub mod SpareRooms
 pub mod StarredPlanned
 pub mod StartRooms
 pub mod UnmetField

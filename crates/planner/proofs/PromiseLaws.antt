@@ -19,6 +19,7 @@ use Rattle.steps.specs.Reply as steps
 use Rattle.steps.specs.Special.{special}
 use Rattle.steps.specs.Table.{planned, needed, replyOf}
 use Rattle.steps.proofs.UnmetField.{planned-place, planned-placeless}
+use Rattle.steps.proofs.Rounds.{planned-rounds, planned-most}
 use Rattle.steps.proofs.Demands.{plan-first, plan-exactly, none-exactly, undecided-exactly, splits-bound, special-decides, number-decided}
 use Rattle.searching.specs.declared.reply.Reply.{Reply}
 use Rattle.searching.specs.Answered.{Answered}
@@ -78,6 +79,9 @@ module _ (input before after : List ℕ) (allowed : ℕ) (r : Reply) (bytes : Ev
     first-found e =
         rw (found .memory, take-at (given .values) (drop (length (given .values)) before) (file .v) (plan-long e)) (plan-first file within allowed (sym number-found ∙ e))
 
+    rounds-found : r .rounds ≡ given .rounds
+    rounds-found = ap (λ (q : Reply). q .rounds) (found .reply)
+
     ladder-found : T (special file) → file .v ≤ allowed
         → ((r .number ≡ 1) × (r .splits ≡ 0))
         ⊎ ((r .number ≡ 0) × (r .«dead_ends» ≡ 0) × ((b : List ℕ) → Plan file b → (i : ℕ) → i < file .v → getD after i 0 ≤ getD b i 0))
@@ -90,14 +94,18 @@ module _ (input before after : List ℕ) (allowed : ℕ) (r : Reply) (bytes : Ev
         ))
         (special-decides file within allowed kind enough)
 
+  -- a call that no file is accepted for is refused, with no round
+  refused-call : ((file : File) → Accepted input before allowed file → ⊥) → (10 ≤ r .number) × (r .rounds ≡ 0)
+  refused-call nobody =
+      rw (answered .reply)
+      (reply-refuses input (length before) allowed (λ file short roomy modest read. nobody file (record { short = short; roomy = roomy; modest = modest; read = read })))
+
   -- a reply that is 01's, with the memory that it leaves, keeps the whole promise
   pub promise-kept : Planned input before after allowed r
   promise-kept = record {
     answered = answered;
     decided = λ file accepted. omega (arith, number-found file accepted, number-decided file (within file accepted) allowed);
-    refused = λ nobody.
-        subst (λ (k : ℕ). 10 ≤ k) (sym (ap (λ (q : Reply). q .number) (answered .reply)))
-        (reply-refuses input (length before) allowed (λ file short roomy modest read. nobody file (record { short = short; roomy = roomy; modest = modest; read = read })));
+    refused = λ nobody. refused-call nobody .0;
     kept = λ other.
         answered .memory
         ∙ ap (λ (values : List ℕ). over values before)
@@ -111,6 +119,9 @@ module _ (input before after : List ℕ) (allowed : ℕ) (r : Reply) (bytes : Ev
     placeless = λ file accepted other.
         place-found file accepted
         ∙ planned-placeless file (within file accepted) allowed (λ now. other (number-found file accepted ∙ now .0, splits-found file accepted ∙ now .1));
+    rounds = λ file accepted. rw (rounds-found file accepted) (planned-rounds file (within file accepted) allowed);
+    most = λ file accepted. rw (rounds-found file accepted) (planned-most file (within file accepted) allowed);
+    unbegun = λ nobody. refused-call nobody .1;
     undecided = undecided-found;
     bound = λ file accepted. omega (arith, splits-found file accepted, splits-bound file (within file accepted) allowed);
     ladder = ladder-found;

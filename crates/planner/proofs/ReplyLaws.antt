@@ -14,13 +14,15 @@ use Rattle.rules.proofs.Reading.RefusalLaws.{refused-number}
 use Rattle.steps.specs.Shrinking.{ifTest}
 use Rattle.steps.specs.Reply.{Reply, refusal}
 use Rattle.steps.specs.Boxes.{startBox, Rooms}
+use Rattle.steps.specs.Rounds.{roundsOf, roundsMost}
 use Rattle.steps.specs.Table.{startOf, planned, ofReading, replyOf}
-use Rattle.steps.proofs.Boxes.BoxSizes.{start-rooms}
+use Rattle.steps.proofs.Boxes.BoxSizes.{start-rooms, spare-most}
 use Rattle.steps.proofs.Demands.{start-positions}
 use Rattle.steps.proofs.Looks.FittingRules.{FieldsFit, FitsBox, read-fits}
-use Rattle.steps.proofs.Search.Counts.{Counted, Written, search-counts, search-written}
+use Rattle.steps.proofs.Looks.RoundLaws.{rounds-bound}
+use Rattle.steps.proofs.Search.Counts.{Counted, Written, counted-rounds, search-counts, search-written}
 use Rattle.rules.specs.Sound.{fileOf}
-use Rattle.rules.proofs.Reading.WalkLaws.{sound-values}
+use Rattle.rules.proofs.Reading.WalkLaws.{sound-limits, sound-values}
 use Rattle.planner.specs.Promise.{Accepted}
 
 module _ (input : List ℕ) (file : File) (read : reading input ≡ sound file) where
@@ -32,14 +34,27 @@ module _ (input : List ℕ) (file : File) (read : reading input ≡ sound file) 
       let values = sound-values input (fileOf (reading input) .v) (record { read = read ∙ ap sound (sym same); positions = refl }) in
       subst (λ (f : File). Rooms (startBox (f .v) (f .n))) same (start-rooms (fileOf (reading input) .v) (fileOf (reading input) .n) (values .0) (values .1))
 
+  -- they are 64 at most
+  positions-few : file .v ≤ 64
+  unfolding fileOf
+  positions-few =
+      let same : fileOf (reading input) ≡ file = ap fileOf read in
+      let few = sound-limits input (fileOf (reading input) .v) (record { read = read ∙ ap sound (sym same); positions = refl }) in
+      omega (arith, few .1, ap (λ (f : File). f .v) same)
+
   -- and its rules fit them
-  start-fits : FitsBox (fieldsOf file) (startOf file)
+  pub start-fits : FitsBox (fieldsOf file) (startOf file)
   start-fits = subst (λ (v : ℕ). FieldsFit v (fieldsOf file)) (sym (start-positions file)) (read-fits input file read)
 
   -- so the counts of its search fit: no more splits than allowed, and at most one dead end more
   pub read-counts : (allowed : ℕ) → Counted allowed 0 0 (planned file allowed)
   unfolding planned
-  read-counts allowed = search-counts (fieldsOf file) (startOf file) start-filled start-fits allowed 0 0 (omega arith)
+  read-counts allowed = counted-rounds (roundsOf (fieldsOf file) (startOf file)) (search-counts (fieldsOf file) (startOf file) start-filled start-fits allowed 0 0 (omega arith))
+
+  -- its rounds are few
+  pub read-rounds : (allowed : ℕ) → planned file allowed .rounds ≤ 1985
+  unfolding planned roundsMost
+  read-rounds allowed = omega (arith, rounds-bound (fieldsOf file) (startOf file) start-filled, spare-most (startOf file) start-filled, start-positions file, positions-few)
 
   -- and only a plan that it gives has values
   read-written : (allowed : ℕ) → Written (planned file allowed)
@@ -79,15 +94,15 @@ module _ (input : List ℕ) (buffer allowed : ℕ) where
       test true g rest h f = h
       test false g rest h f = f refl
 
-  -- a call that no file is accepted for gets a refusal
+  -- a call that no file is accepted for gets a refusal, with no round
   pub reply-refuses : ((file : File) → length input ≤ 32768 → 64 ≤ buffer → allowed ≤ 1000000 → reading input ≡ sound file → ⊥)
-      → 10 ≤ replyOf input buffer allowed .number
+      → (10 ≤ replyOf input buffer allowed .number) × (replyOf input buffer allowed .rounds ≡ 0)
   unfolding ofReading
-  reply-refuses nobody = of-every-reply (λ g. 10 ≤ g .number) (λ number low high. low) read
+  reply-refuses nobody = of-every-reply (λ g. (10 ≤ g .number) × (g .rounds ≡ 0)) (λ number low high. (low, refl)) read
     where
-      read : (r : Reading) → reading input ≡ r → length input ≤ 32768 → 64 ≤ buffer → allowed ≤ 1000000 → 10 ≤ ofReading r allowed .number
+      read : (r : Reading) → reading input ≡ r → length input ≤ 32768 → 64 ≤ buffer → allowed ≤ 1000000 → (10 ≤ ofReading r allowed .number) × (ofReading r allowed .rounds ≡ 0)
       read (sound file) e h g l = absurd (nobody file h g l e)
-      read (refused number place) e h g l = let n = refused-number input number place e in omega arith
+      read (refused number place) e h g l = let n = refused-number input number place e in (omega arith, refl)
 
   -- a reply that is no plan has no values
   pub reply-silent : Written (replyOf input buffer allowed)

@@ -10,6 +10,7 @@ use Rattle.rules.specs.Meaning.{Plan, FirstPlan}
 use Rattle.rules.specs.Reading.{sound, reading}
 use Rattle.rules.specs.Writing.{fieldsOf}
 use Rattle.steps.specs.FirstDead.{FirstDead}
+use Rattle.steps.specs.Rounds.{TakesRounds, roundsMost}
 use Rattle.steps.specs.Table.{startOf, needed, replyOf}
 use Rattle.steps.specs.Special.{special}
 use Rattle.searching.specs.declared.reply.Reply.{Reply}
@@ -40,6 +41,10 @@ pub record Planned (input before after : List ℕ) (allowed : ℕ) (r : Reply) :
   -- A NONE with no split carries the place of the field first found dead (R-3), and every other reply to an accepted call has place 0.
   pub place : (file : File) → Accepted input before allowed file → r .number ≡ 1 → r .splits ≡ 0 → FirstDead (fieldsOf file) (startOf file) (r .place)
   pub placeless : (file : File) → Accepted input before allowed file → ((r .number ≡ 1) × (r .splits ≡ 0) → ⊥) → r .place ≡ 0
+  -- The rounds are those of the first box (R-10), and at most the sum over positions of starting size less one, plus one. A call that is refused has none.
+  pub rounds : (file : File) → Accepted input before allowed file → TakesRounds (fieldsOf file) (startOf file) (r .rounds)
+  pub most : (file : File) → Accepted input before allowed file → r .rounds ≤ roundsMost (startOf file)
+  pub unbegun : ((file : File) → Accepted input before allowed file → ⊥) → r .rounds ≡ 0
   -- UNDECIDED exactly if more splits are needed than were allowed.
   pub undecided : (file : File) → Accepted input before allowed file → (r .number ≡ 2) ↔ (allowed < needed file)
   -- Demand 3. Splits never exceed n ^ v - 1.

@@ -1,2 +1,3 @@
-// The planner: the one call that people rely on, with its reply.
+// The planner: the one call that people rely on, with its reply; and the most rounds that it can report.
 pub mod plan;
+pub mod rounds;

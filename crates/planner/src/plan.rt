@@ -4,6 +4,7 @@ ghost use mathlib.Core.Path.{_≡_};
 ghost use lib.ListN.{replicate};
 ghost use Rattle.sets.specs.Sets.{full};
 ghost use Rattle.planner.specs.Promise.{Planned};
+use boxes::shrink::shrink;
 use searching::reply::Reply;
 use searching::search::search;
 use sets::Room;
@@ -11,7 +12,7 @@ use sound::check::Checked;
 use sound::check::check;
 
 // The rooms at the start: {1..n} everywhere.
-fn start_rooms(n: u32) -> [u32; Room::POSITIONS]
+pub(crate) fn start_rooms(n: u32) -> [u32; Room::POSITIONS]
     ensures { λ r. ⌜ r ≡ replicate 64 (full n) ⌝ }
 {
     let mask = Room::full(n).mask;
@@ -19,8 +20,9 @@ fn start_rooms(n: u32) -> [u32; Room::POSITIONS]
 }
 
 // The one reply of 01's table for every input, every buffer length and every allowance: 10, 11, 12,
-// then the file's own refusals, then what the search finds. A plan's values go to bytes 0 to v - 1 of
-// the buffer; every other byte, and every byte at any other reply, stays.
+// then the file's own refusals, then what the search finds, with the rounds of the first box. A plan's
+// values go to bytes 0 to v - 1 of the buffer; every other byte, and every byte at any other reply,
+// stays.
 pub fn plan(input: &[u8], answer: &mut [u8], allowance: u64) -> Reply
     ensures { λ r. ⌜ Planned (now (input .entry)) (now (answer .entry)) (now (answer .exit)) allowance r ⌝ }
 {
@@ -38,7 +40,9 @@ pub fn plan(input: &[u8], answer: &mut [u8], allowance: u64) -> Reply
         Checked::Refused { number, place } => Reply::refused(number, place),
         Checked::Sound { positions, values } => {
             let v = positions as usize;
-            search(input, v, allowance, start_rooms(values), 0, 0, answer)
+            let first = shrink(input, v, start_rooms(values));
+            let reply = search(input, v, allowance, first, 0, 0, answer);
+            reply.with_rounds(first.rounds)
         }
     }
 }

@@ -1,4 +1,5 @@
 pub mod AnsweredLaws
 pub mod ByteValues
+pub mod ShrunkBoxes
 pub mod Turns
 pub mod Unique

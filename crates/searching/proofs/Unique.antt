@@ -3,8 +3,9 @@ use mathlib.Core.Path.{_≡_, sym, _∙_}
 use mathlib.Core.List.{List}
 use Prim.Native.Nat.{ℕ}
 use Rattle.sets.proofs.Unique.{one-result}
+use Rattle.boxes.specs.declared.shrink.Shrunk.{Shrunk}
 use Rattle.searching.specs.declared.reply.Reply.{Reply}
-use Rattle.searching.specs.Promise.{Ends, NoneAt, Refuses, Searches}
+use Rattle.searching.specs.Promise.{Ends, NoneAt, Refuses, HasRounds, Searches}
 
 pub ended-unique : (number splits deadEnds : ℕ) {r s : Reply} → Ends number splits deadEnds r → Ends number splits deadEnds s → r ≡ s
 ended-unique number splits deadEnds p q = one-result p q
@@ -15,7 +16,10 @@ none-unique place splits deadEnds p q = one-result p q
 pub refused-unique : (number place : ℕ) {r s : Reply} → Refuses number place r → Refuses number place s → r ≡ s
 refused-unique number place p q = one-result p q
 
-pub search-unique : (input : List ℕ) (v allowed : ℕ) (rooms : List ℕ) (splits deadEnds : ℕ) (before after after′ : List ℕ) (r s : Reply)
-    → Searches input v allowed rooms splits deadEnds before r after → Searches input v allowed rooms splits deadEnds before s after′
+pub with-rounds-unique : (given : Reply) (rounds : ℕ) {r s : Reply} → HasRounds given rounds r → HasRounds given rounds s → r ≡ s
+with-rounds-unique given rounds p q = one-result p q
+
+pub search-unique : (input : List ℕ) (v allowed : ℕ) (shrunk : Shrunk) (splits deadEnds : ℕ) (before after after′ : List ℕ) (r s : Reply)
+    → Searches input v allowed shrunk splits deadEnds before r after → Searches input v allowed shrunk splits deadEnds before s after′
     → (r ≡ s) × (after ≡ after′)
-search-unique input v allowed rooms splits deadEnds before after after′ r s p q = (p .reply ∙ sym (q .reply), p .memory ∙ sym (q .memory))
+search-unique input v allowed shrunk splits deadEnds before after after′ r s p q = (p .reply ∙ sym (q .reply), p .memory ∙ sym (q .memory))

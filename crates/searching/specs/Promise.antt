@@ -2,12 +2,13 @@
 use Prim.Native.Nat.{ℕ}
 use mathlib.Core.Path.{_≡_}
 use mathlib.Core.List.{List}
-use lib.ListN.{take}
+use lib.Dec.{leb}
 use Rattle.rules.specs.Sound.{fieldsIn}
-use Rattle.steps.specs.Search.{searched}
+use Rattle.steps.specs.Search.{afterShrinking, searched}
 use Rattle.steps.specs.Reply.{ended, none, refusal}
+use Rattle.boxes.specs.declared.shrink.Shrunk.{Shrunk}
 use Rattle.searching.specs.declared.reply.Reply.{Reply}
-use Rattle.searching.specs.Answered.{told, Answered}
+use Rattle.searching.specs.Answered.{told, Answered, foundIn}
 
 -- `Reply::ended`: the number and the counts, at place 0
 abbrev pub Ends : ℕ → ℕ → ℕ → Reply → Type 0
@@ -17,10 +18,15 @@ Ends number splits deadEnds r = r ≡ told (ended number 0 splits deadEnds)
 abbrev pub NoneAt : ℕ → ℕ → ℕ → Reply → Type 0
 NoneAt place splits deadEnds r = r ≡ told (none place splits deadEnds)
 
--- `Reply::refused`: the number and the place, with no split and no dead end
+-- `Reply::refused`: the number and the place, with no split, no dead end and no round
 abbrev pub Refuses : ℕ → ℕ → Reply → Type 0
 Refuses number place r = r ≡ told (refusal number place)
 
--- `search`: the reply of the search of the first v rooms under the file's rules, and its values in the buffer
-abbrev pub Searches : List ℕ → ℕ → ℕ → List ℕ → ℕ → ℕ → List ℕ → Reply → List ℕ → Type 0
-Searches input v allowed rooms splits deadEnds before r after = Answered (searched (fieldsIn input) allowed (take v rooms) splits deadEnds) r before after
+-- `Reply::with_rounds`: the same reply with these rounds
+abbrev pub HasRounds : Reply → ℕ → Reply → Type 0
+HasRounds given rounds r = r ≡ record { number = given .number; place = given .place; splits = given .splits; «dead_ends» = given .«dead_ends»; rounds = rounds }
+
+-- `search`: the reply of the search of a box of v rooms, by what shrinking it under the file's rules has found, and its values in the buffer
+abbrev pub Searches : List ℕ → ℕ → ℕ → Shrunk → ℕ → ℕ → List ℕ → Reply → List ℕ → Type 0
+Searches input v allowed shrunk splits deadEnds before r after =
+    Answered (afterShrinking (fieldsIn input) (leb allowed) (foundIn v shrunk) splits deadEnds (searched (fieldsIn input) allowed)) r before after

@@ -6,10 +6,10 @@ ghost use lib.ListN.{length, take};
 ghost use Rattle.lists.specs.Buffer.{over};
 ghost use Rattle.lists.specs.Lists.{Every};
 ghost use Rattle.rules.specs.Sound.{SoundInput};
-ghost use Rattle.steps.specs.Boxes.{Rooms};
-ghost use Rattle.searching.specs.Answered.{Counts};
+ghost use Rattle.searching.specs.Answered.{Counts, WasShrunk};
 ghost use Rattle.searching.specs.Promise.{Searches};
 use super::reply::Reply;
+use boxes::shrink::Shrunk;
 use boxes::shrink::Verdict;
 use boxes::shrink::shrink;
 use choosing::choose::choose;
@@ -32,23 +32,22 @@ fn write_values(answer: &mut [u8], values: &[u32; Room::POSITIONS], v: usize)
     }
 }
 
-// The search of the box of the first v rooms under the rules of a sound file, with the splits and
-// the dead ends so far: shrink; a dead box is a dead end; a settled one, in which no room is left to
-// split, gives the smallest value of each room, which goes to the buffer; any other is split, and its
-// halves are searched, the second with the rooms as they were saved before the split.
+// The search of a box of v rooms that was shrunk under the rules of a sound file, with the splits and
+// the dead ends so far: a dead box is a dead end; a settled one, in which no room is left to split,
+// gives the smallest value of each room, which goes to the buffer; any other is split, and its halves
+// are shrunk and searched, the second with the rooms as they were saved before the split.
 pub fn search(
     input: &[u8],
     v: usize,
     allowed: u64,
-    rooms: [u32; Room::POSITIONS],
+    shrunk: Shrunk,
     splits: u64,
     dead_ends: u64,
     answer: &mut [u8],
 ) -> Reply
-    requires { ⌜ SoundInput (now input) v × Rooms (take v rooms) × Counts allowed splits «dead_ends» × (64 ≤ length (now answer)) ⌝ }
-    ensures { λ r. ⌜ Searches (now (input .entry)) v allowed rooms splits «dead_ends» (now (answer .entry)) r (now (answer .exit)) ⌝ }
+    requires { ⌜ SoundInput (now input) v × WasShrunk (now input) v shrunk × Counts allowed splits «dead_ends» × (64 ≤ length (now answer)) ⌝ }
+    ensures { λ r. ⌜ Searches (now (input .entry)) v allowed shrunk splits «dead_ends» (now (answer .entry)) r (now (answer .exit)) ⌝ }
 {
-    let shrunk = shrink(input, v, rooms);
     let verdict = shrunk.verdict;
     let saved = shrunk.rooms;
     if let Verdict::Dead(place) = verdict {
@@ -66,15 +65,17 @@ pub fn search(
     }
     let half = first_half(saved, i);
     let rest = other_half(saved, i);
-    let first = search(input, v, allowed, half, splits + 1, dead_ends, answer);
+    let low = shrink(input, v, half);
+    let first = search(input, v, allowed, low, splits + 1, dead_ends, answer);
     if first.number != Reply::NONE {
         return first;
     }
+    let others = shrink(input, v, rest);
     search(
         input,
         v,
         allowed,
-        rest,
+        others,
         first.splits,
         first.dead_ends,
         answer,

@@ -3,6 +3,7 @@ ghost use Prim.Native.Nat.{_≤_};
 use super::buffer::BLANK;
 use super::tally::DEAD_ENDS;
 use super::tally::PLACES;
+use super::tally::ROUNDS;
 use super::tally::SPLITS;
 use super::tally::Seen;
 use super::tally::Tally;
@@ -22,7 +23,7 @@ pub(crate) fn ask(tally: Tally, file: &[u8], length: usize, allowance: u64) -> T
     count(tally, seen_as(reply, bytes))
 }
 
-// Counts a reply: its number, the sums, and all four numbers in the checksum.
+// Counts a reply: its number, the sums, and all five numbers in the checksum.
 fn count(before: Tally, seen: Seen) -> Tally {
     let place = seen.place as u64;
     let counts = before.counts;
@@ -31,10 +32,12 @@ fn count(before: Tally, seen: Seen) -> Tally {
     tally = add(tally, SPLITS, seen.splits);
     tally = add(tally, DEAD_ENDS, seen.dead_ends);
     tally = add(tally, PLACES, place);
+    tally = add(tally, ROUNDS, seen.rounds);
     tally = append(tally, seen.number as u64);
     tally = append(tally, place);
     tally = append(tally, seen.splits);
-    append(tally, seen.dead_ends)
+    tally = append(tally, seen.dead_ends);
+    append(tally, seen.rounds)
 }
 
 // A reply as numbers.
@@ -44,6 +47,7 @@ fn seen_as(reply: Reply, bytes: [u8; 68]) -> Seen {
         place: reply.place,
         splits: reply.splits,
         dead_ends: reply.dead_ends,
+        rounds: reply.rounds,
         bytes,
     }
 }

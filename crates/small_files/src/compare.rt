@@ -1,5 +1,5 @@
 // What the replies to one file are compared with.
-ghost use Prim.Native.Nat.{_≤_};
+ghost use Prim.Native.Nat.{_≤_, _<_};
 use super::asking::ask;
 use super::buffer::blank;
 use super::buffer::is_assignment;
@@ -56,25 +56,33 @@ pub(crate) fn is_undecided(seen: Seen, allowance: u64) -> bool {
     is(seen, 2, 0, &blank()) && seen.splits == allowance && seen.dead_ends <= allowance
 }
 
-// Whether the reply is this refusal at place 0, with nothing written.
+// Whether a reply has no splits, no dead ends and no rounds, as a refusal has.
+fn no_counts(seen: Seen) -> bool {
+    seen.splits == 0 && seen.dead_ends == 0 && seen.rounds == 0
+}
+
+// Whether the reply is this refusal at place 0, with nothing counted and nothing written.
 pub(crate) fn is_refusal(seen: Seen, number: usize) -> bool {
-    is(seen, number, 0, &blank()) && seen.splits == 0 && seen.dead_ends == 0
+    is(seen, number, 0, &blank()) && no_counts(seen)
 }
 
 // Whether two replies agree in all that was seen of them.
 pub(crate) fn agree(a: Seen, b: Seen) -> bool {
     let left = b.bytes;
-    is(a, b.number, b.place, &left) && a.splits == b.splits && a.dead_ends == b.dead_ends
+    is(a, b.number, b.place, &left)
+        && a.splits == b.splits
+        && a.dead_ends == b.dead_ends
+        && a.rounds == b.rounds
 }
 
 // Whether the reply is a refusal from 13 to 20, with a place in a file of a length and with nothing
-// written.
+// counted and nothing written.
 fn is_fault(seen: Seen, length: usize) -> bool {
     if seen.number < 13 || 20 < seen.number {
         return false;
     }
     let left = seen.bytes;
-    seen.place <= length && same(&left, &blank())
+    seen.place <= length && no_counts(seen) && same(&left, &blank())
 }
 
 // Compares the reply to a file that is not sound: a refusal.
@@ -82,6 +90,29 @@ fn unsound(tally: Tally, file: &[u8]) -> Tally {
     let asked = ask(tally, file, 64, MOST);
     let right = is_fault(asked.seen, file.len());
     expect(asked, right, b"not refused:", file)
+}
+
+// The most rounds of a first box: the sum over positions of starting size less one, plus one (02, R-10).
+// 1 where n is 0, as it is in no sound file.
+fn most_rounds(v: usize, n: usize) -> usize
+    requires { ⌜ (v ≤ 64) × (n < 256) ⌝ }
+{
+    let mut most = 1;
+    if n < 1 {
+        return most;
+    }
+    for _ in 0..v {
+        most += n - 1;
+    }
+    most
+}
+
+// Whether the reply to a sound file has rounds: one at least, and no more than the most. How many they
+// are is in the checksum.
+fn has_rounds(seen: Seen, v: usize, n: usize) -> bool
+    requires { ⌜ (v ≤ 64) × (n < 256) ⌝ }
+{
+    1 <= seen.rounds && seen.rounds <= most_rounds(v, n) as u64
 }
 
 // Whether the reply to a file is what the enumeration found.
@@ -97,11 +128,13 @@ fn is_found(seen: Seen, right: Found, file: &[u8]) -> bool {
 // Compares the reply to a sound file with what the enumeration finds. There are never as many splits
 // as assignments.
 fn enumerated(tally: Tally, file: &[u8], v: usize, n: usize) -> Tally
-    requires { ⌜ v ≤ 64 ⌝ }
+    requires { ⌜ (v ≤ 64) × (n < 256) ⌝ }
 {
     let right = first(file, v, n);
     let asked = ask(tally, file, 64, MOST);
-    let agrees = is_found(asked.seen, right, file) && asked.seen.splits < assignments(v, n);
+    let agrees = is_found(asked.seen, right, file)
+        && asked.seen.splits < assignments(v, n)
+        && has_rounds(asked.seen, v, n);
     expect(asked, agrees, b"not as enumerated:", file)
 }
 
@@ -116,9 +149,11 @@ fn is_possible(seen: Seen, file: &[u8], v: usize, n: usize) -> bool {
 }
 
 // Compares the reply to a sound file with too many assignments: a plan has to meet all rules.
-fn too_many(tally: Tally, file: &[u8], v: usize, n: usize) -> Tally {
+fn too_many(tally: Tally, file: &[u8], v: usize, n: usize) -> Tally
+    requires { ⌜ (v ≤ 64) × (n < 256) ⌝ }
+{
     let asked = ask(tally, file, 64, FEW);
-    let right = is_possible(asked.seen, file, v, n);
+    let right = is_possible(asked.seen, file, v, n) && has_rounds(asked.seen, v, n);
     expect(asked, right, b"not met:", file)
 }
 

@@ -54,13 +54,13 @@ fn another(tally: Tally, file: &[u8], full: Seen, length: usize, allowance: u64)
 }
 
 // Whether a reply is right: refusal 11 where the buffer is below 64, UNDECIDED where the allowance is
-// below the splits of the reply that the file had, and otherwise that reply.
+// below the splits of the reply that the file had, with that reply's rounds, and otherwise that reply.
 fn is_right(seen: Seen, full: Seen, length: usize, allowance: u64) -> bool {
     if length < 64 {
         return is_refusal(seen, 11);
     }
     if allowance < full.splits {
-        return is_undecided(seen, allowance);
+        return is_undecided(seen, allowance) && seen.rounds == full.rounds;
     }
     agree(seen, full)
 }

@@ -7,12 +7,12 @@
 // The enumeration, and the test whether a file is sound, are written from 01 alone and share nothing
 // with the planner but the bytes. The file `stdout` beside src/ has the lines that are right. It was
 // made by other means, by a model that was written from 01 and 02: it makes the same files and
-// the same calls, and for each call the refusal, or the splits and the dead ends of the search, from
-// sets of values.
+// the same calls, and for each call the refusal, or the splits and the dead ends of the search and the
+// rounds of its first box, from sets of values.
 //
 // The sums stay right where an error in one reply makes up for an error in another. So a checksum
-// takes in the number, the place, the splits and the dead ends of each reply, in the order of the
-// calls: one number that differs changes it, and so do two that are exchanged.
+// takes in the number, the place, the splits, the dead ends and the rounds of each reply, in the order
+// of the calls: one number that differs changes it, and so do two that are exchanged.
 mod asking;
 mod buffer;
 mod chance;

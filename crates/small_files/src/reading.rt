@@ -20,7 +20,9 @@ pub(crate) fn positions(file: &[u8]) -> usize
 }
 
 // The number of values that a header names.
-pub(crate) fn values(file: &[u8]) -> usize {
+pub(crate) fn values(file: &[u8]) -> usize
+    ensures { λ r. ⌜ r < 256 ⌝ }
+{
     byte(file, 4)
 }
 

@@ -14,12 +14,14 @@ pub const SPLITS: usize = 24;
 pub const DEAD_ENDS: usize = 25;
 // The sum of the places of all replies.
 pub const PLACES: usize = 26;
+// The sum of the rounds of all replies.
+pub const ROUNDS: usize = 27;
+// The checksum of the five numbers of every reply, in the order of the calls.
+pub const CHECKSUM: usize = 28;
 // What was compared: every reply, and that every file that was made is sound.
-pub const COMPARISONS: usize = 27;
+pub const COMPARISONS: usize = 29;
 // Comparisons that showed a difference.
-pub const DIFFERENCES: usize = 28;
-// The checksum of the four numbers of every reply, in the order of the calls.
-pub const CHECKSUM: usize = 29;
+pub const DIFFERENCES: usize = 30;
 
 // The checksum is kept below this.
 const MODULUS: u64 = 4_294_967_296;
@@ -27,12 +29,13 @@ const MODULUS: u64 = 4_294_967_296;
 // differs is lost again behind it.
 const FACTOR: u64 = 1_000_003;
 
-// A reply as 01's number, place, splits and dead ends, and the bytes after the call.
+// A reply as 01's number, place, splits and dead ends and 02's rounds, and the bytes after the call.
 pub struct Seen {
     pub number: usize,
     pub place: usize,
     pub splits: u64,
     pub dead_ends: u64,
+    pub rounds: u64,
     pub bytes: [u8; 68],
 }
 
@@ -49,6 +52,7 @@ pub(crate) fn none() -> Tally {
         place: 0,
         splits: 0,
         dead_ends: 0,
+        rounds: 0,
         bytes: [0; 68],
     };
     Tally {
@@ -96,8 +100,8 @@ fn print_file(what: &[u8], file: &[u8]) {
 }
 
 // The places whose counts are printed, in this order: FILES and DAMAGED, the replies by their
-// numbers, SPLITS, DEAD_ENDS, PLACES, CHECKSUM, COMPARISONS and DIFFERENCES.
-const PRINTED: [usize; 22] = [
+// numbers, SPLITS, DEAD_ENDS, PLACES, ROUNDS, CHECKSUM, COMPARISONS and DIFFERENCES.
+const PRINTED: [usize; 23] = [
     22,
     23,
     0,
@@ -117,9 +121,10 @@ const PRINTED: [usize; 22] = [
     24,
     25,
     26,
-    29,
     27,
     28,
+    29,
+    30,
 ];
 
 // Prints all counts, a line for each.
@@ -130,7 +135,8 @@ pub(crate) fn print(tally: Tally) {
           refused, 10: #\nrefused, 11: #\nrefused, 12: #\nrefused, 13: #\n\
           refused, 14: #\nrefused, 15: #\nrefused, 16: #\nrefused, 17: #\n\
           refused, 18: #\nrefused, 19: #\nrefused, 20: #\n\
-          splits #\ndead ends #\nplaces #\nchecksum #\ncomparisons #\ndifferences #\n",
+          splits #\ndead ends #\nplaces #\nrounds #\n\
+          checksum #\ncomparisons #\ndifferences #\n",
     );
 }
 
@@ -153,7 +159,7 @@ fn print_piece(tally: Tally, byte: u8, next: usize) -> usize {
 
 // Prints a count, and answers which one is the next.
 fn print_count(tally: Tally, next: usize) -> usize {
-    if next < 22 {
+    if next < 23 {
         let place = PRINTED[next];
         if place < 32 {
             io::print_decimal(STDOUT_FILENO, tally.counts[place]);

@@ -11,7 +11,8 @@ use Rattle.rules.specs.Meaning.{Plan, FirstPlan}
 use Rattle.rules.specs.Writing.{fieldsOf, Within}
 use Rattle.rules.proofs.Writing.PlaceLaws.{meets-placed}
 use Rattle.steps.specs.Boxes.{openValues, boxSize}
-use Rattle.steps.specs.Reply.{Reply}
+use Rattle.steps.specs.Reply.{Reply, withRounds}
+use Rattle.steps.specs.Rounds.{roundsOf}
 use Rattle.steps.specs.Search.{search, nowhere, searched, never, explored}
 use Rattle.steps.specs.Special.{special, specialRules}
 use Rattle.steps.specs.Table.{startOf, planned, needed}
@@ -20,7 +21,7 @@ use Rattle.steps.proofs.Looks.FittingRules.{FieldsFit, fields-fit}
 use Rattle.steps.proofs.Search.Allowance as allowance
 use Rattle.steps.proofs.Search.Bounds.{depth}
 use Rattle.steps.proofs.Search.Bounds as bounds
-use Rattle.steps.proofs.Search.Counts.{Counted, search-counts, search-written}
+use Rattle.steps.proofs.Search.Counts.{Counted, counted-rounds, search-counts, search-written}
 use Rattle.steps.proofs.Search.Decided as decided
 use Rattle.steps.proofs.Search.Decided.{Start}
 use Rattle.steps.proofs.Search.Tree.{tree}
@@ -90,14 +91,14 @@ module _ (file : File) (within : Within file) where
     -- ---- demand 3
 
     -- with enough splits allowed the reply and its counts are those of the search without an allowance
-    pub enough-allowed : needed file ≤ allowed → planned file allowed ≡ explored (fieldsOf file) (startOf file)
+    pub enough-allowed : needed file ≤ allowed → planned file allowed ≡ withRounds (roundsOf (fieldsOf file) (startOf file)) (explored (fieldsOf file) (startOf file))
     unfolding planned needed
-    enough-allowed = allowance.enough-allowed (fieldsOf file) (startOf file) (start .rooms) (start .fits) allowed
+    enough-allowed h = ap (withRounds (roundsOf (fieldsOf file) (startOf file))) (allowance.enough-allowed (fieldsOf file) (startOf file) (start .rooms) (start .fits) allowed h)
 
     -- the counts begin with no split and no dead end
     pub planned-counts : Counted allowed 0 0 (planned file allowed)
     unfolding planned
-    planned-counts = search-counts (fieldsOf file) (startOf file) (start .rooms) (start .fits) allowed 0 0 (omega arith)
+    planned-counts = counted-rounds (roundsOf (fieldsOf file) (startOf file)) (search-counts (fieldsOf file) (startOf file) (start .rooms) (start .fits) allowed 0 0 (omega arith))
 
     -- NONE has one dead end more than splits
     pub none-counts : planned file allowed .number ≡ 1 → planned file allowed .deadEnds ≡ planned file allowed .splits + 1
@@ -126,9 +127,11 @@ module _ (file : File) (within : Within file) where
 
   -- What the search answers where its depth runs out never matters: whatever that is, with more depth than the start has open values it is the same search.
   pub planned-whatever : (deeper : List ℕ → ℕ → ℕ → Reply) (k : ℕ) → openValues (startOf file) < k → (allowed : ℕ)
-      → search deeper k (fieldsOf file) (leb allowed) (startOf file) 0 0 ≡ planned file allowed
+      → withRounds (roundsOf (fieldsOf file) (startOf file)) (search deeper k (fieldsOf file) (leb allowed) (startOf file) 0 0) ≡ planned file allowed
   unfolding planned searched
-  planned-whatever deeper k enough allowed = depth-never-matters (fieldsOf file) (startOf file) (start .rooms) (start .fits) deeper nowhere k _ enough (omega arith) (leb allowed) 0 0
+  planned-whatever deeper k enough allowed =
+      ap (withRounds (roundsOf (fieldsOf file) (startOf file)))
+      (depth-never-matters (fieldsOf file) (startOf file) (start .rooms) (start .fits) deeper nowhere k _ enough (omega arith) (leb allowed) 0 0)
 
   -- so it is with the splits that it needs
   pub needed-whatever : (deeper : List ℕ → ℕ → ℕ → Reply) (k : ℕ) → openValues (startOf file) < k → search deeper k (fieldsOf file) never (startOf file) 0 0 .splits ≡ needed file

@@ -1,6 +1,8 @@
 pub mod Boxes
 pub mod Demands
 pub mod Looks
+pub mod RoundExamples
+pub mod Rounds
 pub mod Search
 pub mod Special
 pub mod StarredCases

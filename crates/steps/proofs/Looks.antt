@@ -8,6 +8,7 @@ pub mod LiveLaws
 pub mod LiveTests
 pub mod OrderOfCutting
 pub mod PartLaws
+pub mod RoundLaws
 pub mod RuleLaws
 pub mod ShrinkLaws
 pub mod SixLaws

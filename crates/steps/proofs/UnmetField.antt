@@ -10,11 +10,13 @@ use Rattle.rules.specs.UpTo.{upTo}
 use Rattle.rules.proofs.Writing.UpToLaws.{fields-up-to, front-within}
 use Rattle.steps.specs.Shrinking.{dead, round}
 use Rattle.steps.specs.FirstDead.{FirstDead}
-use Rattle.steps.specs.Reply.{none}
+use Rattle.steps.specs.Reply.{none, withRounds}
+use Rattle.steps.specs.Rounds.{roundsOf}
 use Rattle.steps.specs.Table.{startOf, planned}
 use Rattle.steps.proofs.Demands.{start, none-exactly}
 use Rattle.steps.proofs.Looks.DeadField.{round-first-dead}
 use Rattle.steps.proofs.Looks.FirstRound.{round-up-to}
+use Rattle.steps.proofs.Looks.RoundLaws.{round-dies}
 use Rattle.steps.proofs.Search.DeadPlace.{NoneAtOnce, Placeless, dead-none, none-dead, search-placeless}
 
 module _ (file : File) (within : Within file) (allowed : ℕ) where
@@ -24,9 +26,15 @@ module _ (file : File) (within : Within file) (allowed : ℕ) where
   planned-place = none-dead (fieldsOf file) (startOf file) (start file within .rooms) (start file within .fits) allowed
 
   -- and where a field is first found dead, that is the reply
-  pub place-planned : (place : ℕ) → FirstDead (fieldsOf file) (startOf file) place → planned file allowed ≡ none place 0 1
+  pub place-planned : (place : ℕ) → FirstDead (fieldsOf file) (startOf file) place → planned file allowed ≡ withRounds (roundsOf (fieldsOf file) (startOf file)) (none place 0 1)
   unfolding planned
-  place-planned = dead-none (fieldsOf file) (startOf file) (start file within .rooms) allowed
+  place-planned place h = ap (withRounds (roundsOf (fieldsOf file) (startOf file))) (dead-none (fieldsOf file) (startOf file) (start file within .rooms) allowed place h)
+
+  -- with one round, where the first finds it dead
+  pub place-at-once : (place : ℕ) → round (fieldsOf file) (startOf file) ≡ dead place → planned file allowed ≡ withRounds 1 (none place 0 1)
+  place-at-once place e =
+      place-planned place (round-first-dead _ _ place e)
+      ∙ ap (λ (k : ℕ). withRounds k (none place 0 1)) (round-dies (fieldsOf file) (startOf file) (start file within .rooms) place e .1)
 
   -- every other reply has place 0
   pub planned-placeless : Placeless (planned file allowed)
@@ -45,11 +53,10 @@ module _ (file : File) (place : ℕ) (found : round (fieldsOf file) (startOf fil
     -- the file that is cut behind it has the same reply
     pub first-round-reply : (allowed : ℕ) → planned (upTo place file) allowed ≡ planned file allowed
     first-round-reply allowed =
-        place-planned (upTo place file) (front-within place file within) allowed place (round-first-dead _ _ place front-found)
-        ∙ sym (place-planned file within allowed place (round-first-dead _ _ place found))
+        place-at-once (upTo place file) (front-within place file within) allowed place front-found ∙ sym (place-at-once file within allowed place found)
 
     -- and so the rules up to and including that field alone have no plan
     pub first-round-alone : (a : List ℕ) → Plan (upTo place file) a → ⊥
     first-round-alone =
         let cut = front-within place file within in
-        none-exactly (upTo place file) cut 0 .0 (ap (λ r. r .number) (place-planned (upTo place file) cut 0 place (round-first-dead _ _ place front-found))) .0
+        none-exactly (upTo place file) cut 0 .0 (ap (λ r. r .number) (place-at-once (upTo place file) cut 0 place front-found)) .0

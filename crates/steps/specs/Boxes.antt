@@ -27,6 +27,11 @@ unfoldable pub openValues : List ℕ → ℕ
 openValues [] = 0
 openValues (room ∷ box) = count room + openValues box
 
+-- the values that the rooms may still lose, each down to its last one: the sum over positions of the room's size less one
+unfoldable pub spareValues : List ℕ → ℕ
+spareValues [] = 0
+spareValues (room ∷ box) = (count room - 1) + spareValues box
+
 -- the number of assignments in a box: the product of the rooms' sizes
 unfoldable pub boxSize : List ℕ → ℕ
 boxSize [] = 1

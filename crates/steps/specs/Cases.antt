@@ -1,5 +1,5 @@
--- 01's twelve starred cases: the bytes of each file, the splits allowed, and the reply; the counts of l are those of 02 (R-2), and the place of d is (R-3).
--- Behind them two cases of R-3. Assumes nothing.
+-- 01's twelve starred cases: the bytes of each file, the splits allowed, and the reply; the counts of l are those of 02 (R-2), the place of d (R-3) and the rounds
+-- (R-10) too. Behind them two cases of R-3 and five of R-10. Assumes nothing.
 use Prim.Native.Nat.{ℕ}
 use mathlib.Core.List.{List, [], _∷_}
 use Rattle.steps.specs.Reply.{Reply}
@@ -10,94 +10,94 @@ pub record Case : Type 0 where
   pub allowed : ℕ
   pub reply : Reply
 
--- a case by the bytes, the splits allowed, and the number, the place, the splits, the dead ends and the values of the reply
-unfoldable pub case : List ℕ → ℕ → ℕ → ℕ → ℕ → ℕ → List ℕ → Case
-case bytes allowed number place splits deadEnds values =
-    record { bytes = bytes; allowed = allowed; reply = record { number = number; place = place; splits = splits; deadEnds = deadEnds; values = values } }
+-- a case by the bytes, the splits allowed, and the number, the place, the splits, the dead ends, the rounds and the values of the reply
+unfoldable pub case : List ℕ → ℕ → ℕ → ℕ → ℕ → ℕ → ℕ → List ℕ → Case
+case bytes allowed number place splits deadEnds rounds values =
+    record { bytes = bytes; allowed = allowed; reply = record { number = number; place = place; splits = splits; deadEnds = deadEnds; rounds = rounds; values = values } }
 
 -- a. source 002's first example
 unfoldable pub case-a : Case
 unfolding case
 case-a =
     case (1 ∷ 0 ∷ 2 ∷ 3 ∷ 2 ∷ 2 ∷ 0 ∷ 15 ∷ 1 ∷ 0 ∷ 0 ∷ 0 ∷ 2 ∷ 2 ∷ 0 ∷ 0 ∷ 0 ∷ 2 ∷ 3 ∷ 0 ∷ 0 ∷ 0 ∷ 1 ∷ 2 ∷ 0 ∷ 10 ∷ 1 ∷ 0 ∷ 0 ∷ 0 ∷ 1 ∷ 2 ∷ 0 ∷ 0 ∷ 0 ∷ 1 ∷ 2 ∷ 0 ∷ 5 ∷ 3 ∷ 0 ∷ 0 ∷ 0 ∷ 2 ∷ 2 ∷ 0 ∷ 10 ∷ 1 ∷ 0 ∷ 0 ∷ 0 ∷ 2 ∷ 2 ∷ 0 ∷ 0 ∷ 0 ∷ 1 ∷ [])
-    1000000 0 0 1 1 (2 ∷ 1 ∷ 2 ∷ [])
+    1000000 0 0 1 1 2 (2 ∷ 1 ∷ 2 ∷ [])
 
 -- b. its second example
 unfoldable pub case-b : Case
 unfolding case
 case-b =
     case (1 ∷ 0 ∷ 2 ∷ 4 ∷ 2 ∷ 2 ∷ 0 ∷ 20 ∷ 1 ∷ 0 ∷ 0 ∷ 0 ∷ 2 ∷ 2 ∷ 0 ∷ 0 ∷ 0 ∷ 1 ∷ 3 ∷ 0 ∷ 0 ∷ 0 ∷ 1 ∷ 4 ∷ 0 ∷ 0 ∷ 0 ∷ 1 ∷ 2 ∷ 0 ∷ 10 ∷ 2 ∷ 0 ∷ 0 ∷ 0 ∷ 2 ∷ 4 ∷ 0 ∷ 0 ∷ 0 ∷ 1 ∷ 2 ∷ 0 ∷ 10 ∷ 3 ∷ 0 ∷ 0 ∷ 0 ∷ 2 ∷ 4 ∷ 0 ∷ 0 ∷ 0 ∷ 1 ∷ 2 ∷ 0 ∷ 5 ∷ 4 ∷ 0 ∷ 0 ∷ 0 ∷ 2 ∷ [])
-    1000000 0 0 0 0 (2 ∷ 2 ∷ 2 ∷ 2 ∷ [])
+    1000000 0 0 0 0 4 (2 ∷ 2 ∷ 2 ∷ 2 ∷ [])
 
 -- c. no rules
 unfoldable pub case-c : Case
 unfolding case
 case-c =
     case (1 ∷ 0 ∷ 2 ∷ 2 ∷ 3 ∷ [])
-    1000000 0 0 0 0 (1 ∷ 1 ∷ [])
+    1000000 0 0 0 0 1 (1 ∷ 1 ∷ [])
 
 -- d. an empty clause: the field at 5 cannot be met
 unfoldable pub case-d : Case
 unfolding case
 case-d =
     case (1 ∷ 0 ∷ 2 ∷ 2 ∷ 3 ∷ 2 ∷ 0 ∷ 0 ∷ [])
-    1000000 1 5 0 1 ([])
+    1000000 1 5 0 1 1 ([])
 
 -- e. {1,2} equals the values of 1, 2
 unfoldable pub case-e : Case
 unfolding case
 case-e =
     case (1 ∷ 0 ∷ 2 ∷ 2 ∷ 2 ∷ 3 ∷ 0 ∷ 6 ∷ 0 ∷ 0 ∷ 0 ∷ 3 ∷ 1 ∷ 2 ∷ [])
-    1000000 0 0 1 0 (1 ∷ 2 ∷ [])
+    1000000 0 0 1 0 1 (1 ∷ 2 ∷ [])
 
 -- f. the same with no split allowed
 unfoldable pub case-f : Case
 unfolding case
 case-f =
     case (1 ∷ 0 ∷ 2 ∷ 2 ∷ 2 ∷ 3 ∷ 0 ∷ 6 ∷ 0 ∷ 0 ∷ 0 ∷ 3 ∷ 1 ∷ 2 ∷ [])
-    0 2 0 0 0 ([])
+    0 2 0 0 0 1 ([])
 
 -- g. {1,2,3} equals the values of 1, 2
 unfoldable pub case-g : Case
 unfolding case
 case-g =
     case (1 ∷ 0 ∷ 2 ∷ 2 ∷ 3 ∷ 3 ∷ 0 ∷ 6 ∷ 0 ∷ 0 ∷ 0 ∷ 7 ∷ 1 ∷ 2 ∷ [])
-    1000000 1 0 1 2 ([])
+    1000000 1 0 1 2 1 ([])
 
 -- h. {1,2,3} equals the values of 1, 2, 3
 unfoldable pub case-h : Case
 unfolding case
 case-h =
     case (1 ∷ 0 ∷ 2 ∷ 3 ∷ 3 ∷ 3 ∷ 0 ∷ 7 ∷ 0 ∷ 0 ∷ 0 ∷ 7 ∷ 1 ∷ 2 ∷ 3 ∷ [])
-    1000000 0 0 3 1 (1 ∷ 2 ∷ 3 ∷ [])
+    1000000 0 0 3 1 1 (1 ∷ 2 ∷ 3 ∷ [])
 
 -- i. the same with 2 splits allowed
 unfoldable pub case-i : Case
 unfolding case
 case-i =
     case (1 ∷ 0 ∷ 2 ∷ 3 ∷ 3 ∷ 3 ∷ 0 ∷ 7 ∷ 0 ∷ 0 ∷ 0 ∷ 7 ∷ 1 ∷ 2 ∷ 3 ∷ [])
-    2 2 0 2 1 ([])
+    2 2 0 2 1 1 ([])
 
 -- j. [p1{2,3}], [p1{1} p2{3}]
 unfoldable pub case-j : Case
 unfolding case
 case-j =
     case (1 ∷ 0 ∷ 2 ∷ 2 ∷ 3 ∷ 2 ∷ 0 ∷ 5 ∷ 1 ∷ 0 ∷ 0 ∷ 0 ∷ 6 ∷ 2 ∷ 0 ∷ 10 ∷ 1 ∷ 0 ∷ 0 ∷ 0 ∷ 1 ∷ 2 ∷ 0 ∷ 0 ∷ 0 ∷ 4 ∷ [])
-    1000000 0 0 0 0 (2 ∷ 3 ∷ [])
+    1000000 0 0 0 0 2 (2 ∷ 3 ∷ [])
 
 -- k. [p1{1} p2{1}]
 unfoldable pub case-k : Case
 unfolding case
 case-k =
     case (1 ∷ 0 ∷ 2 ∷ 2 ∷ 2 ∷ 2 ∷ 0 ∷ 10 ∷ 1 ∷ 0 ∷ 0 ∷ 0 ∷ 1 ∷ 2 ∷ 0 ∷ 0 ∷ 0 ∷ 1 ∷ [])
-    1000000 0 0 1 0 (1 ∷ 1 ∷ [])
+    1000000 0 0 1 0 1 (1 ∷ 1 ∷ [])
 
 -- l. the four clauses on positions 2 and 3 with one-value sets; 1 and 2 by R-2, where 01 had 3 and 4
 unfoldable pub case-l : Case
 unfolding case
 case-l =
     case (1 ∷ 0 ∷ 2 ∷ 3 ∷ 2 ∷ 2 ∷ 0 ∷ 10 ∷ 2 ∷ 0 ∷ 0 ∷ 0 ∷ 1 ∷ 3 ∷ 0 ∷ 0 ∷ 0 ∷ 1 ∷ 2 ∷ 0 ∷ 10 ∷ 2 ∷ 0 ∷ 0 ∷ 0 ∷ 1 ∷ 3 ∷ 0 ∷ 0 ∷ 0 ∷ 2 ∷ 2 ∷ 0 ∷ 10 ∷ 2 ∷ 0 ∷ 0 ∷ 0 ∷ 2 ∷ 3 ∷ 0 ∷ 0 ∷ 0 ∷ 1 ∷ 2 ∷ 0 ∷ 10 ∷ 2 ∷ 0 ∷ 0 ∷ 0 ∷ 2 ∷ 3 ∷ 0 ∷ 0 ∷ 0 ∷ 2 ∷ [])
-    1000000 1 0 1 2 ([])
+    1000000 1 0 1 2 1 ([])
 
 -- the starred cases
 unfoldable pub starred : List Case
@@ -110,15 +110,56 @@ unfoldable pub case-first-round : Case
 unfolding case
 case-first-round =
     case (1 ∷ 0 ∷ 2 ∷ 2 ∷ 2 ∷ 2 ∷ 0 ∷ 10 ∷ 1 ∷ 0 ∷ 0 ∷ 0 ∷ 1 ∷ 2 ∷ 0 ∷ 0 ∷ 0 ∷ 1 ∷ 2 ∷ 0 ∷ 5 ∷ 1 ∷ 0 ∷ 0 ∷ 0 ∷ 2 ∷ 2 ∷ 0 ∷ 5 ∷ 2 ∷ 0 ∷ 0 ∷ 0 ∷ 2 ∷ 2 ∷ 0 ∷ 5 ∷ 2 ∷ 0 ∷ 0 ∷ 0 ∷ 1 ∷ [])
-    1000000 1 34 0 1 ([])
+    1000000 1 34 0 1 1 ([])
 
 -- [p1{2} p2{1}], [p1{1}], [p2{2}]: the first round cuts both rooms, and the second finds the first field dead, at 5
 unfoldable pub case-second-round : Case
 unfolding case
 case-second-round =
     case (1 ∷ 0 ∷ 2 ∷ 2 ∷ 2 ∷ 2 ∷ 0 ∷ 10 ∷ 1 ∷ 0 ∷ 0 ∷ 0 ∷ 2 ∷ 2 ∷ 0 ∷ 0 ∷ 0 ∷ 1 ∷ 2 ∷ 0 ∷ 5 ∷ 1 ∷ 0 ∷ 0 ∷ 0 ∷ 1 ∷ 2 ∷ 0 ∷ 5 ∷ 2 ∷ 0 ∷ 0 ∷ 0 ∷ 2 ∷ [])
-    1000000 1 5 0 1 ([])
+    1000000 1 5 0 1 2 ([])
 
 -- both
 unfoldable pub unmet : List Case
 unmet = case-first-round ∷ case-second-round ∷ []
+
+-- ---- R-10: the rounds of the first box
+
+-- 64 positions of 32 values and no rule: the first round changes nothing, and counts
+unfoldable pub case-no-rule : Case
+unfolding case
+case-no-rule =
+    case (1 ∷ 0 ∷ 2 ∷ 64 ∷ 32 ∷ [])
+    0 0 0 0 0 1 (1 ∷ 1 ∷ 1 ∷ 1 ∷ 1 ∷ 1 ∷ 1 ∷ 1 ∷ 1 ∷ 1 ∷ 1 ∷ 1 ∷ 1 ∷ 1 ∷ 1 ∷ 1 ∷ 1 ∷ 1 ∷ 1 ∷ 1 ∷ 1 ∷ 1 ∷ 1 ∷ 1 ∷ 1 ∷ 1 ∷ 1 ∷ 1 ∷ 1 ∷ 1 ∷ 1 ∷ 1 ∷ 1 ∷ 1 ∷ 1 ∷ 1 ∷ 1 ∷ 1 ∷ 1 ∷ 1 ∷ 1 ∷ 1 ∷ 1 ∷ 1 ∷ 1 ∷ 1 ∷ 1 ∷ 1 ∷ 1 ∷ 1 ∷ 1 ∷ 1 ∷ 1 ∷ 1 ∷ 1 ∷ 1 ∷ 1 ∷ 1 ∷ 1 ∷ 1 ∷ 1 ∷ 1 ∷ 1 ∷ 1 ∷ [])
+
+-- [p2{1} p3{2}], [p1{1} p2{2}], [p1{2}], v 3, n 2: each of three rounds cuts one room, and the fourth, which is the most, changes nothing
+unfoldable pub case-at-the-bound : Case
+unfolding case
+case-at-the-bound =
+    case (1 ∷ 0 ∷ 2 ∷ 3 ∷ 2 ∷ 2 ∷ 0 ∷ 10 ∷ 2 ∷ 0 ∷ 0 ∷ 0 ∷ 1 ∷ 3 ∷ 0 ∷ 0 ∷ 0 ∷ 2 ∷ 2 ∷ 0 ∷ 10 ∷ 1 ∷ 0 ∷ 0 ∷ 0 ∷ 1 ∷ 2 ∷ 0 ∷ 0 ∷ 0 ∷ 2 ∷ 2 ∷ 0 ∷ 5 ∷ 1 ∷ 0 ∷ 0 ∷ 0 ∷ 2 ∷ [])
+    1000000 0 0 0 0 4 (2 ∷ 2 ∷ 2 ∷ [])
+
+-- [p1{2}], [p2{1} p3{1}], v 3, n 2: two rounds, and a split is needed
+unfoldable pub case-undecided : Case
+unfolding case
+case-undecided =
+    case (1 ∷ 0 ∷ 2 ∷ 3 ∷ 2 ∷ 2 ∷ 0 ∷ 5 ∷ 1 ∷ 0 ∷ 0 ∷ 0 ∷ 2 ∷ 2 ∷ 0 ∷ 10 ∷ 2 ∷ 0 ∷ 0 ∷ 0 ∷ 1 ∷ 3 ∷ 0 ∷ 0 ∷ 0 ∷ 1 ∷ [])
+    0 2 0 0 0 2 ([])
+
+-- the same with a split allowed: the rounds stay those of the first box
+unfoldable pub case-first-box : Case
+unfolding case
+case-first-box =
+    case (1 ∷ 0 ∷ 2 ∷ 3 ∷ 2 ∷ 2 ∷ 0 ∷ 5 ∷ 1 ∷ 0 ∷ 0 ∷ 0 ∷ 2 ∷ 2 ∷ 0 ∷ 10 ∷ 2 ∷ 0 ∷ 0 ∷ 0 ∷ 1 ∷ 3 ∷ 0 ∷ 0 ∷ 0 ∷ 1 ∷ [])
+    1 0 0 1 0 2 (2 ∷ 1 ∷ 1 ∷ [])
+
+-- the same with a second header behind it: a refusal, with no round
+unfoldable pub case-refused : Case
+unfolding case
+case-refused =
+    case (1 ∷ 0 ∷ 2 ∷ 3 ∷ 2 ∷ 2 ∷ 0 ∷ 5 ∷ 1 ∷ 0 ∷ 0 ∷ 0 ∷ 2 ∷ 2 ∷ 0 ∷ 10 ∷ 2 ∷ 0 ∷ 0 ∷ 0 ∷ 1 ∷ 3 ∷ 0 ∷ 0 ∷ 0 ∷ 1 ∷ 1 ∷ 0 ∷ 2 ∷ 3 ∷ 2 ∷ [])
+    1 15 26 0 0 0 ([])
+
+-- all five
+unfoldable pub inRounds : List Case
+inRounds = case-no-rule ∷ case-at-the-bound ∷ case-undecided ∷ case-first-box ∷ case-refused ∷ []

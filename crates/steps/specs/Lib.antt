@@ -1,5 +1,6 @@
 pub mod Boxes
 pub mod Shrinking
+pub mod Rounds
 pub mod Reply
 pub mod FirstDead
 pub mod Search

@@ -7,7 +7,7 @@ use lib.ListN.{length}
 use Rattle.lists.specs.Lowest.{lowest}
 use Rattle.rules.specs.Rules.{Field}
 use Rattle.steps.specs.Boxes.{openValues, wide, smallestOf, firstHalf, otherHalf}
-use Rattle.steps.specs.Shrinking.{ifAlive, ifTest, shrunk, settled, liveInFields}
+use Rattle.steps.specs.Shrinking.{Look, ifAlive, ifTest, shrunk, settled, liveInFields}
 use Rattle.steps.specs.Reply.{Reply, plan, none, undecided}
 
 -- whether step 4 may split the room at an index: it has two or more values, and its position is live in some part that is not settled
@@ -22,15 +22,19 @@ chosen fields box = lowest (splittable fields box) (length box)
 abbrev pub ifNone : Reply → (ℕ → ℕ → Reply) → Reply
 ifNone first later = elim (eqb (first .number) 1) [ true ↦ later (first .splits) (first .deadEnds) | false ↦ first ]
 
--- One turn: steps 1 to 4 for a box, with the splits and the dead ends so far. `spent` says of the splits whether the allowance is used up; `again` searches
--- the halves.
-abbrev pub turn : List Field → (ℕ → Bool) → List ℕ → ℕ → ℕ → (List ℕ → ℕ → ℕ → Reply) → Reply
-turn fields spent box s d again =
-    ifAlive (shrunk fields box) (λ place. none place s (d + 1)) λ inner.
+-- Steps 2 to 4 for what shrinking a box has found, with the splits and the dead ends so far. `spent` says of the splits whether the allowance is used up; `again`
+-- searches the halves.
+abbrev pub afterShrinking : List Field → (ℕ → Bool) → Look → ℕ → ℕ → (List ℕ → ℕ → ℕ → Reply) → Reply
+afterShrinking fields spent found s d again =
+    ifAlive found (λ place. none place s (d + 1)) λ inner.
     ifTest (settled fields inner) (plan (smallestOf inner) s d) λ _.
     ifTest (spent s) (undecided s d) λ _.
     ifNone (again (firstHalf (chosen fields inner) inner) (s + 1) d) λ s′ d′.
     again (otherHalf (chosen fields inner) inner) s′ d′
+
+-- one turn: the box is shrunk, and then steps 2 to 4
+abbrev pub turn : List Field → (ℕ → Bool) → List ℕ → ℕ → ℕ → (List ℕ → ℕ → ℕ → Reply) → Reply
+turn fields spent box s d again = afterShrinking fields spent (shrunk fields box) s d again
 
 -- The search of a box: turn by turn. The number bounds how deep it goes, and `deeper` is what it answers where that is not enough.
 unfoldable pub search : (List ℕ → ℕ → ℕ → Reply) → ℕ → List Field → (ℕ → Bool) → List ℕ → ℕ → ℕ → Reply

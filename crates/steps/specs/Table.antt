@@ -1,4 +1,4 @@
--- 01's table of replies: input, buffer length and allowance to the one reply. Assumes nothing.
+-- 01's table of replies: input, buffer length and allowance to the one reply; and input to the most rounds (R-10). Assumes nothing.
 use Prim.Native.Nat.{ℕ}
 use mathlib.Core.List.{List}
 use lib.Dec.{ltb}
@@ -8,16 +8,17 @@ use Rattle.rules.specs.Rules.{File}
 use Rattle.rules.specs.Reading.{Reading, sound, refused, reading}
 use Rattle.steps.specs.Boxes.{startBox}
 use Rattle.steps.specs.Shrinking.{ifTest}
-use Rattle.steps.specs.Reply.{Reply, refusal}
+use Rattle.steps.specs.Reply.{Reply, withRounds, refusal}
+use Rattle.steps.specs.Rounds.{roundsOf, roundsMost}
 use Rattle.steps.specs.Search.{searched, explored}
 
 -- the box that the search of a file starts with: {1..n} everywhere
 unfoldable pub startOf : File → List ℕ
 startOf file = startBox (file .v) (file .n)
 
--- the search of a file
+-- the search of a file, with the rounds of its first box
 unfoldable pub planned : File → ℕ → Reply
-planned file allowed = searched (fieldsOf file) allowed (startOf file) 0 0
+planned file allowed = withRounds (roundsOf (fieldsOf file) (startOf file)) (searched (fieldsOf file) allowed (startOf file) 0 0)
 
 -- the splits that the search of a file needs: those of the search without an allowance
 unfoldable pub needed : File → ℕ
@@ -35,3 +36,16 @@ replyOf input buffer allowed =
     ifTest (ltb buffer 64) (refusal 11 0) λ _.
     ifTest (ltb 1000000 allowed) (refusal 12 0) λ _.
     ofReading (reading input) allowed
+
+-- ---- R-10: the most rounds that a reply can have, known before the search
+
+-- those of the first box of the file that was read, and 0 where the bytes are refused
+unfoldable pub mostOf : Reading → ℕ
+mostOf (refused number place) = 0
+mostOf (sound file) = roundsMost (startOf file)
+
+-- 10, then what was read
+unfoldable pub mostRounds : List ℕ → ℕ
+mostRounds input =
+    ifTest (ltb 32768 (length input)) 0 λ _.
+    mostOf (reading input)

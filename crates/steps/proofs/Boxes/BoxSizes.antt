@@ -1,10 +1,10 @@
--- Laws of the number of open values and the number of assignments of a box, of its two halves, and of its smallest values. Assumes nothing.
+-- Laws of the number of open values, of those that may still go, and of the number of assignments of a box, of its two halves, and of its smallest values. Assumes nothing.
 use mathlib.Core.Path.{_≡_, refl, sym, ap, ap₂, _∙_}
 use mathlib.Core.Logic.{_↔_, Iff·rfl, Iff·trans, Iff·and, _⊎_, inl, inr, ⊎-elim, ⊎-map}
 use mathlib.Core.Bool.{Bool, _&&_}
 use mathlib.Core.List.{List, [], _∷_}
-use Prim.Native.Nat.{ℕ, zero, suc, _+_, _*_, _^_, _≤_, _<_}
-use native.Mathlib.Nat.{le-refl, add-mul, mul-add, mul-le-mul, mul-pos, pow-zero, pow-succ'}
+use Prim.Native.Nat.{ℕ, zero, suc, _+_, _*_, _-_, _^_, _≤_, _<_}
+use native.Mathlib.Nat.{le-refl, zero-mul, suc-mul, add-comm, add-mul, mul-add, mul-le-mul, mul-pos, pow-zero, pow-succ'}
 use native.Mathlib.Numerals.{lt-of-le-of-ne}
 use native.Mathlib.Decide.{ℕ-discrete}
 use native.Mathlib.Omega.{arith}
@@ -15,12 +15,12 @@ use Rattle.lists.proofs.TestLaws.{both-hold, le-holds}
 use Rattle.sets.specs.Sets.{member, full, single, inside, count, smallest, others}
 use Rattle.sets.proofs.Members.{member-full, member-single}
 use Rattle.sets.proofs.Sameness.{full-below, single-below}
-use Rattle.sets.proofs.Counting.{count-positive, count-not-empty, count-of-single, count-of-full, count-inside, count-falls}
+use Rattle.sets.proofs.Counting.{count-positive, count-at-most, count-not-empty, count-of-single, count-of-full, count-inside, count-falls}
 use Rattle.sets.proofs.Smallest.{smallest-least, smallest-member, smallest-range, single-inside}
 use Rattle.sets.proofs.Smallest.{others-below, member-others, others-inside, count-others}
 use Rattle.rules.specs.Meaning.{Assignment, Before}
-use Rattle.steps.specs.Boxes.{startBox, openValues, boxSize, InBox, BoxInside, Rooms, wide, smallestOf, firstHalf, otherHalf}
-use Rattle.steps.proofs.Boxes.BoxLaws.{in-box-at, in-box-set, set-inside, rooms-at, rooms-set}
+use Rattle.steps.specs.Boxes.{startBox, openValues, spareValues, boxSize, InBox, BoxInside, Rooms, wide, smallestOf, firstHalf, otherHalf}
+use Rattle.steps.proofs.Boxes.BoxLaws.{in-box-at, in-box-set, box-inside-length, set-inside, rooms-at, rooms-set}
 
 -- ---- one box inside another
 
@@ -45,6 +45,26 @@ open-inside b c hb hc i = ⊎-elim (λ e. omega (arith, ap openValues e)) (λ l.
 -- a smaller box that is another box has fewer open values
 pub open-falls : (b c : List ℕ) → Rooms b → Rooms c → BoxInside b c → (b ≡ c → ⊥) → openValues b < openValues c
 open-falls b c hb hc i ne = ⊎-elim (λ e. absurd (ne e)) (λ l. l) (same-or-falls b c hb hc i)
+
+-- ---- the values that rooms may still lose
+
+-- the open values are those, and one in each room
+pub open-spare : (box : List ℕ) → Rooms box → openValues box ≡ length box + spareValues box
+unfolding openValues spareValues
+open-spare [] rooms = refl
+open-spare (room ∷ box) rooms = omega (arith, open-spare box (rooms .1), count-positive room (rooms .0 .0) (rooms .0 .1))
+
+-- they are at most 31 in each room
+pub spare-most : (box : List ℕ) → Rooms box → spareValues box ≤ 31 * length box
+unfolding spareValues
+spare-most [] rooms = omega arith
+spare-most (room ∷ box) rooms = omega (arith, spare-most box (rooms .1), count-at-most room (rooms .0 .0))
+
+-- a smaller box that is another box has fewer of them
+pub spare-falls : (b c : List ℕ) → Rooms b → Rooms c → BoxInside b c → (b ≡ c → ⊥) → spareValues b < spareValues c
+spare-falls b c hb hc i ne = omega (arith, open-falls b c hb hc i ne, open-spare b hb, open-spare c hc, box-inside-length b c i)
+
+-- ---- the number of assignments
 
 -- a smaller box has no more assignments
 pub size-inside : (b c : List ℕ) → Rooms b → Rooms c → BoxInside b c → boxSize b ≤ boxSize c
@@ -222,3 +242,9 @@ pub start-size : (v n : ℕ) → n ≤ 32 → boxSize (startBox v n) ≡ n ^ v
 unfolding startBox boxSize
 start-size zero n l = sym (pow-zero n)
 start-size (suc v) n l = ap₂ _*_ (count-of-full n l) (start-size v n l) ∙ sym (pow-succ' n v)
+
+-- and n - 1 values at each that may still go
+pub start-spare : (v n : ℕ) → n ≤ 32 → spareValues (startBox v n) ≡ v * (n - 1)
+unfolding startBox spareValues
+start-spare zero n l = sym (zero-mul (n - 1))
+start-spare (suc v) n l = ap₂ (λ (c k : ℕ). (c - 1) + k) (count-of-full n l) (start-spare v n l) ∙ add-comm (n - 1) (v * (n - 1)) ∙ sym (suc-mul v (n - 1))

@@ -10,10 +10,11 @@ use Rattle.rules.specs.Rules.{Field}
 use Rattle.steps.specs.Boxes.{Rooms}
 use Rattle.steps.specs.Shrinking.{Look, dead, alive, ifAlive, inTurn, lookField, round, sameRooms, shrunk}
 use Rattle.steps.specs.FirstDead.{overAndOver, FirstDead}
+use Rattle.steps.specs.Rounds.{Rounds, died, rested, went}
 use Rattle.steps.proofs.Boxes.BoxLaws.{same-rooms-iff}
 use Rattle.steps.proofs.Looks.InTurn.{dead-not-alive, in-turn-append, in-turn-killed}
 use Rattle.steps.proofs.Looks.RuleLaws.{rule-place}
-use Rattle.steps.proofs.Looks.ShrinkLaws.{Rounds, ended, rested, went, rounds-once, shrunk-rounds}
+use Rattle.steps.proofs.Looks.ShrinkLaws.{rounds-once, shrunk-rounds}
 
 -- a dead round names the place of one of the fields
 pub round-field : (fields : List Field) (box : List ℕ) (place : ℕ) → round fields box ≡ dead place → Some (λ f. f .place ≡ place) fields
@@ -32,29 +33,31 @@ module _ (fields : List Field) where
   once-more k box r = in-turn-append lookField fields (overAndOver k fields) box ∙ ap (later k) r
 
   -- rounds that come to a dead field are the fields gone through over and over
-  rounds-over : {l : Look} {box : List ℕ} → Rounds fields l box → (place : ℕ) → l ≡ dead place → FirstDead fields box place
+  rounds-over : {l : Look} {k : ℕ} {box : List ℕ} → Rounds fields l k box → (place : ℕ) → l ≡ dead place → FirstDead fields box place
   unfolding later
-  rounds-over {box = box} (ended p r e) place d = (1, once-more 0 box r ∙ sym e ∙ d)
+  rounds-over {box = box} (died p r e) place d = (1, once-more 0 box r ∙ sym e ∙ d)
   rounds-over {l} {box} (rested r e) place d = absurd (dead-not-alive l place box d e)
   rounds-over {box = box} (went r ne more) place d = let found = rounds-over more place d in (suc (found .0), once-more (found .0) box r ∙ found .1)
 
   -- and the other way round
-  over-rounds : (k : ℕ) (box : List ℕ) (place : ℕ) → inTurn lookField (overAndOver k fields) box ≡ dead place → Rounds fields (dead place) box
+  over-rounds : (k : ℕ) (box : List ℕ) (place : ℕ) → inTurn lookField (overAndOver k fields) box ≡ dead place → (j : ℕ) × Rounds fields (dead place) j box
   unfolding overAndOver inTurn later
   over-rounds zero box place e = absurd (dead-not-alive (alive box) place box e refl)
   over-rounds (suc k) box place e = go (over-rounds k) (round fields box) refl
     where
-      go : ((b : List ℕ) (q : ℕ) → inTurn lookField (overAndOver k fields) b ≡ dead q → Rounds fields (dead q) b) → (l : Look) → round fields box ≡ l → Rounds fields (dead place) box
-      go rest (dead p) r = ended place (r ∙ sym (once-more k box r) ∙ e) refl
+      go : ((b : List ℕ) (q : ℕ) → inTurn lookField (overAndOver k fields) b ≡ dead q → (j : ℕ) × Rounds fields (dead q) j b) → (l : Look) → round fields box ≡ l
+          → (j : ℕ) × Rounds fields (dead place) j box
+      go rest (dead p) r = (1, died place (r ∙ sym (once-more k box r) ∙ e) refl)
       go rest (alive b) r =
           let found = rest b place (sym (once-more k box r) ∙ e) in
-          ⊎-elim (λ t. subst (Rounds fields (dead place)) (same-rooms-iff b box .0 t) found) (λ ne. went r (λ same. ne (same-rooms-iff b box .1 same)) found)
+          ⊎-elim (λ t. (found .0, subst (Rounds fields (dead place) (found .0)) (same-rooms-iff b box .0 t) (found .1)))
+          (λ ne. (suc (found .0), went r (λ same. ne (same-rooms-iff b box .1 same)) (found .1)))
           (test-cases (sameRooms b box))
 
   -- shrinking finds a field dead exactly if it is the first found dead so
   pub shrunk-first-dead : (box : List ℕ) (place : ℕ) → Rooms box → (shrunk fields box ≡ dead place) ↔ FirstDead fields box place
   shrunk-first-dead box place rooms =
-      (rounds-over (shrunk-rounds fields box rooms) place, λ h. rounds-once fields (shrunk-rounds fields box rooms) (over-rounds (h .0) box place (h .1)))
+      (rounds-over (shrunk-rounds fields box rooms) place, λ h. rounds-once fields (shrunk-rounds fields box rooms) (over-rounds (h .0) box place (h .1) .1) .0)
 
   -- a field that the first round finds dead is the first found dead
   pub round-first-dead : (box : List ℕ) (place : ℕ) → round fields box ≡ dead place → FirstDead fields box place
@@ -63,7 +66,7 @@ module _ (fields : List Field) where
 
   -- there is one such place
   pub first-dead-once : (box : List ℕ) (p q : ℕ) → FirstDead fields box p → FirstDead fields box q → p ≡ q
-  first-dead-once box p q h g = let same = rounds-once fields (over-rounds (h .0) box p (h .1)) (over-rounds (g .0) box q (g .1)) in cc
+  first-dead-once box p q h g = let same = rounds-once fields (over-rounds (h .0) box p (h .1) .1) (over-rounds (g .0) box q (g .1) .1) .0 in cc
 
   -- what holds of one of them over and over holds of one of them
   some-over : (P : Field → Type 0) (k : ℕ) → Some P (overAndOver k fields) → Some P fields

@@ -10,7 +10,8 @@ use Rattle.lists.specs.Lists.{Some, Every}
 use Rattle.rules.specs.Rules.{Field}
 use Rattle.rules.specs.Meaning.{Meets, MeetsFields}
 use Rattle.steps.specs.Boxes.{openValues, InBox, BoxInside, Rooms}
-use Rattle.steps.specs.Shrinking.{Look, dead, alive, ifAlive, ifTest, lookRule, lookField, round, sameRooms, shrink, shrunk, settledRule, settled}
+use Rattle.steps.specs.Shrinking.{Look, dead, alive, lookRule, lookField, round, sameRooms, shrink, shrunk, settledRule, settled}
+use Rattle.steps.specs.Rounds.{Rounds, died, rested, went, countRounds, roundsOf}
 use Rattle.steps.proofs.Boxes.BoxLaws.{in-box-length, box-inside-refl, box-inside-trans, same-rooms-iff}
 use Rattle.steps.proofs.Boxes.BoxSizes.{open-falls}
 use Rattle.steps.proofs.Looks.SixLaws.{Sound, Inward, Settling, Steady, Monotone, NotLive}
@@ -22,12 +23,6 @@ use Rattle.steps.proofs.Looks.RuleLaws.{LiveInRule, rule-sound, rule-in
 -- p is a position of the box that is live in some part of a field that is not settled
 abbrev pub LiveInFields : List Field → List ℕ → ℕ → Type 0
 LiveInFields fields box p = Some (λ f. LiveInRule (f .rule) box p) fields
-
--- rounds, one after the other, that come to l: a round finds the box dead; or it changes nothing; or it changes the box, and rounds of what is left come to l
-pub data Rounds (fields : List Field) (l : Look) : List ℕ → Type 0 where
-  ended : {box : List ℕ} (p : ℕ) → round fields box ≡ dead p → l ≡ dead p → Rounds fields l box
-  rested : {box : List ℕ} → round fields box ≡ alive box → l ≡ alive box → Rounds fields l box
-  went : {box box′ : List ℕ} → round fields box ≡ alive box′ → (box′ ≡ box → ⊥) → Rounds fields l box′ → Rounds fields l box
 
 module _ (fields : List Field) where
   -- ---- a round
@@ -58,15 +53,15 @@ module _ (fields : List Field) where
   -- ---- rounds that come to an end
 
   -- what a round keeps, rounds keep
-  rounds-keep : (Q : List ℕ → Type 0) → Keeps Q (round fields) → {l : Look} {box : List ℕ} → Rounds fields l box → (c : List ℕ) → l ≡ alive c → Q box → Q c
-  rounds-keep Q each {l} (ended p r e) c a q = absurd (dead-not-alive l p c e a)
+  rounds-keep : (Q : List ℕ → Type 0) → Keeps Q (round fields) → {l : Look} {k : ℕ} {box : List ℕ} → Rounds fields l k box → (c : List ℕ) → l ≡ alive c → Q box → Q c
+  rounds-keep Q each {l} (died p r e) c a q = absurd (dead-not-alive l p c e a)
   rounds-keep Q each (rested {box} r e) c a q = let same : box ≡ c = cc in subst Q same q
   rounds-keep Q each (went {box} {box′} r ne more) c a q = rounds-keep Q each more c a (each box box′ q r)
 
   -- what a round spares, rounds spare
-  rounds-spare : (Q : List ℕ → Type 0) → Spares Q (round fields) → {l : Look} {box : List ℕ} → Rounds fields l box → Q box
+  rounds-spare : (Q : List ℕ → Type 0) → Spares Q (round fields) → {l : Look} {k : ℕ} {box : List ℕ} → Rounds fields l k box → Q box
       → (box′ : List ℕ) × (l ≡ alive box′) × Q box′
-  rounds-spare Q each (ended {box} p r e) q = let found = each box q in absurd (dead-not-alive (round fields box) p (found .0) r (found .1))
+  rounds-spare Q each (died {box} p r e) q = let found = each box q in absurd (dead-not-alive (round fields box) p (found .0) r (found .1))
   rounds-spare Q each (rested {box} r e) q = (box, e, q)
   rounds-spare Q each (went {box} {box′} r ne more) q =
       let found = each box q in
@@ -74,60 +69,54 @@ module _ (fields : List Field) where
       rounds-spare Q each more (subst Q same (found .2))
 
   -- where rounds end, one more changes nothing
-  rounds-fixed : {l : Look} {box : List ℕ} → Rounds fields l box → (c : List ℕ) → l ≡ alive c → round fields c ≡ alive c
-  rounds-fixed {l} (ended p r e) c a = absurd (dead-not-alive l p c e a)
+  rounds-fixed : {l : Look} {k : ℕ} {box : List ℕ} → Rounds fields l k box → (c : List ℕ) → l ≡ alive c → round fields c ≡ alive c
+  rounds-fixed {l} (died p r e) c a = absurd (dead-not-alive l p c e a)
   rounds-fixed (rested {box} r e) c a = let same : box ≡ c = cc in subst (λ (b : List ℕ). round fields b ≡ alive b) same r
   rounds-fixed (went r ne more) c a = rounds-fixed more c a
 
-  -- rounds come to one end
-  pub rounds-once : {l m : Look} {box : List ℕ} → Rounds fields l box → Rounds fields m box → l ≡ m
-  rounds-once (ended p r e) (ended q s d) = cc
-  rounds-once (ended p r e) (rested s d) = cc
-  rounds-once (ended p r e) (went s ne more) = cc
-  rounds-once (rested r e) (ended q s d) = cc
-  rounds-once (rested r e) (rested s d) = cc
+  -- rounds come to one end, and there is one number of them
+  pub rounds-once : {l m : Look} {k j : ℕ} {box : List ℕ} → Rounds fields l k box → Rounds fields m j box → (l ≡ m) × (k ≡ j)
+  rounds-once (died p r e) (died q s d) = (cc, refl)
+  rounds-once (died p r e) (rested {box} s d) = absurd (dead-not-alive (round fields box) p box r s)
+  rounds-once (died {box} p r e) (went {box′} s ne more) = absurd (dead-not-alive (round fields box) p box′ r s)
+  rounds-once (rested r e) (died {box} q s d) = absurd (dead-not-alive (round fields box) q box s r)
+  rounds-once (rested r e) (rested s d) = (cc, refl)
   rounds-once (rested {box} r e) (went {box′} s ne more) = let same : box′ ≡ box = cc in absurd (ne same)
-  rounds-once (went r ne more) (ended q s d) = cc
+  rounds-once (went {box} {box′} r ne more) (died q s d) = absurd (dead-not-alive (round fields box) q box′ s r)
   rounds-once (went {box} {box′} r ne more) (rested s d) = let same : box′ ≡ box = cc in absurd (ne same)
-  rounds-once {l} {m} (went {box′ = b} r ne more) (went {box′ = c} s too rest) = let same : c ≡ b = cc in rounds-once more (subst (Rounds fields m) same rest)
+  rounds-once {l} {m} (went {box′ = b} r ne more) (went {box′ = c} {k = j} s too rest) =
+      let same : c ≡ b = cc in
+      let once = rounds-once more (subst (Rounds fields m j) same rest) in
+      (once .0, ap suc (once .1))
 
   -- ---- shrinking
 
-  -- shrinking is rounds that come to an end, since each but the last takes an open value away
-  shrink-rounds : (k : ℕ) (box : List ℕ) → Rooms box → openValues box < k → Rounds fields (shrink k fields box) box
-  unfolding shrink
+  -- shrinking is rounds that come to an end, as many as are counted, since each but the last takes an open value away
+  shrink-rounds : (k : ℕ) (box : List ℕ) → Rooms box → openValues box < k → Rounds fields (shrink k fields box) (countRounds k fields box) box
+  unfolding shrink countRounds
   shrink-rounds zero box rooms h = absurd (omega arith)
   shrink-rounds (suc k) box rooms h = go (shrink-rounds k) (round fields box) refl
     where
-      After : Look → Look
-      After l = ifAlive l (λ p. dead p) λ box′. ifTest (sameRooms box′ box) (alive box′) λ _. shrink k fields box′
-
-      tested : (box′ : List ℕ) (b : Bool) → round fields box ≡ alive box′ → sameRooms box′ box ≡ b
-          → shrink (suc k) fields box ≡ ifTest b (alive box′) (λ _. shrink k fields box′)
-      tested box′ b e t = ap After e ∙ ap (λ (c : Bool). ifTest c (alive box′) (λ _. shrink k fields box′)) t
-
-      same : ((b : List ℕ) → Rooms b → openValues b < k → Rounds fields (shrink k fields b) b) → (box′ : List ℕ) → round fields box ≡ alive box′
-          → (b : Bool) → sameRooms box′ box ≡ b → Rounds fields (shrink (suc k) fields box) box
-      same rest box′ e true t =
-          let eq = same-rooms-iff box′ box .0 (true-test (sameRooms box′ box) t) in
-          rested (e ∙ ap alive eq) (tested box′ true e t ∙ ap alive eq)
+      same : ((b : List ℕ) → Rooms b → openValues b < k → Rounds fields (shrink k fields b) (countRounds k fields b) b) → (box′ : List ℕ) → round fields box ≡ alive box′
+          → (b : Bool) → sameRooms box′ box ≡ b → Rounds fields (shrink (suc k) fields box) (countRounds (suc k) fields box) box
+      same rest box′ e true t = let eq = same-rooms-iff box′ box .0 (true-test (sameRooms box′ box) t) in rw (e, t) (rested (e ∙ ap alive eq) (ap alive eq))
       same rest box′ e false t =
           let ne : box′ ≡ box → ⊥ = λ eq. subst T t (same-rooms-iff box′ box .1 eq) in
           let i = round-inside box box′ rooms e in
-          went e ne (subst (λ (l : Look). Rounds fields l box′) (sym (tested box′ false e t)) (rest box′ (i .1) (omega (arith, open-falls box′ box (i .1) rooms (i .0) ne))))
+          rw (e, t) (went e ne (rest box′ (i .1) (omega (arith, open-falls box′ box (i .1) rooms (i .0) ne))))
 
-      go : ((b : List ℕ) → Rooms b → openValues b < k → Rounds fields (shrink k fields b) b) → (l : Look) → round fields box ≡ l
-          → Rounds fields (shrink (suc k) fields box) box
-      go rest (dead p) e = ended p e (ap After e)
+      go : ((b : List ℕ) → Rooms b → openValues b < k → Rounds fields (shrink k fields b) (countRounds k fields b) b) → (l : Look) → round fields box ≡ l
+          → Rounds fields (shrink (suc k) fields box) (countRounds (suc k) fields box) box
+      go rest (dead p) e = rw e (died p e refl)
       go rest (alive box′) e = same rest box′ e (sameRooms box′ box) refl
 
   -- more rounds than there are open values change nothing
   pub shrink-enough : (box : List ℕ) (k j : ℕ) → Rooms box → openValues box < k → openValues box < j → shrink k fields box ≡ shrink j fields box
-  shrink-enough box k j rooms hk hj = rounds-once (shrink-rounds k box rooms hk) (shrink-rounds j box rooms hj)
+  shrink-enough box k j rooms hk hj = rounds-once (shrink-rounds k box rooms hk) (shrink-rounds j box rooms hj) .0
 
-  -- shrinking is rounds that come to an end
-  pub shrunk-rounds : (box : List ℕ) → Rooms box → Rounds fields (shrunk fields box) box
-  unfolding shrunk
+  -- shrinking is rounds that come to an end, and their number is the one that is counted
+  pub shrunk-rounds : (box : List ℕ) → Rooms box → Rounds fields (shrunk fields box) (roundsOf fields box) box
+  unfolding shrunk roundsOf
   shrunk-rounds box rooms = shrink-rounds (suc (openValues box)) box rooms (omega arith)
 
   -- an assignment of the box that meets all rules is still in the box after shrinking, which is not dead

@@ -1,16 +1,14 @@
 -- How many splits a search of a box takes, and how deep they lie: `explore-bound`, `depth-bound`. Assumes nothing.
-use mathlib.Core.List.{List, [], _∷_}
-use Prim.Native.Nat.{ℕ, _+_, _*_, _≤_, _<_, max}
+use mathlib.Core.List.{List}
+use Prim.Native.Nat.{ℕ, _+_, _≤_, _<_, max}
 use native.Mathlib.Omega.{arith}
 use lib.ListN.{length}
-use Rattle.sets.specs.Sets.{count}
-use Rattle.sets.proofs.Counting.{count-at-most, count-positive}
 use Rattle.rules.specs.Rules.{Field}
-use Rattle.steps.specs.Boxes.{openValues, boxSize, Rooms, firstHalf, otherHalf}
+use Rattle.steps.specs.Boxes.{spareValues, boxSize, Rooms, firstHalf, otherHalf}
 use Rattle.steps.specs.Reply.{Reply}
 use Rattle.steps.specs.Search.{never, explored}
 use Rattle.steps.proofs.Boxes.BoxLaws.{box-inside-length}
-use Rattle.steps.proofs.Boxes.BoxSizes.{size-inside, size-positive, half-sizes}
+use Rattle.steps.proofs.Boxes.BoxSizes.{open-spare, spare-most, size-inside, size-positive, half-sizes}
 use Rattle.steps.proofs.Looks.FittingRules.{FitsBox}
 use Rattle.steps.proofs.Search.Split.{after-none}
 use Rattle.steps.proofs.Search.Tree.{Tree, dies, settles, divides, first-smaller, other-smaller, tree}
@@ -44,28 +42,26 @@ depth (dies place rooms e) = 0
 depth (settles m t) = 0
 depth (divides m u at p f o) = 1 + max (depth f) (depth o)
 
--- each room has an open value at least, and 32 at most
-rooms-open : (box : List ℕ) → Rooms box → (length box ≤ openValues box) × (openValues box ≤ 32 * length box)
-unfolding openValues
-rooms-open [] rooms = omega arith
-rooms-open (room ∷ box) rooms =
-    omega (arith, rooms-open box (rooms .1), count-positive room (rooms .0 .0) (rooms .0 .1), count-at-most room (rooms .0 .0))
-
 -- each split takes an open value away, and one stays in each room
-pub depth-open : {fields : List Field} {box : List ℕ} (t : Tree fields box) → depth t + length box ≤ openValues box
-depth-open {box = box} (dies place rooms e) = omega (arith, rooms-open box rooms)
-depth-open {box = box} (settles m t) = omega (arith, rooms-open box (m .before))
-depth-open {box = box} (divides {inner = inner} {i = i} m u at p f o) =
+depth-spare : {fields : List Field} {box : List ℕ} (t : Tree fields box) → depth t ≤ spareValues box
+depth-spare (dies place rooms e) = omega arith
+depth-spare (settles m t) = omega arith
+depth-spare {box = box} (divides {inner = inner} {i = i} m u at p f o) =
     let first = first-smaller m p in
     let other = other-smaller m p in
     omega (
       arith,
-      depth-open f,
-      depth-open o,
+      depth-spare f,
+      depth-spare o,
+      first .falls,
+      other .falls,
+      open-spare box (m .before),
+      open-spare (firstHalf i inner) (first .rooms),
+      open-spare (otherHalf i inner) (other .rooms),
       box-inside-length (firstHalf i inner) box (first .inside),
       box-inside-length (otherHalf i inner) box (other .inside),
     )
 
 -- in a box of at most 64 positions a search goes at most 64 * 31 splits deep
 pub depth-bound : (fields : List Field) (box : List ℕ) (rooms : Rooms box) (fits : FitsBox fields box) → length box ≤ 64 → depth (tree fields box rooms fits) ≤ 1984
-depth-bound fields box rooms fits few = omega (arith, depth-open (tree fields box rooms fits), rooms-open box rooms)
+depth-bound fields box rooms fits few = omega (arith, depth-spare (tree fields box rooms fits), spare-most box rooms)

@@ -7,7 +7,7 @@ use native.Mathlib.Omega.{arith}
 use lib.Dec.{leb}
 use Rattle.rules.specs.Rules.{Field}
 use Rattle.steps.specs.Boxes.{Rooms}
-use Rattle.steps.specs.Reply.{Reply}
+use Rattle.steps.specs.Reply.{Reply, withRounds}
 use Rattle.steps.specs.Search.{searched, explored}
 use Rattle.steps.proofs.Looks.FittingRules.{FitsBox}
 use Rattle.steps.proofs.Search.Allowance.{enough-allowed}
@@ -40,6 +40,10 @@ walk-counts (divides m u at p f o) allowed s d h =
       others = λ n. omega (arith, c .none e, g .others n);
     })
     (λ ne. omega (arith, c .others ne)))
+
+-- the rounds play no part in it
+pub counted-rounds : (rounds : ℕ) {allowed s d : ℕ} {r : Reply} → Counted allowed s d r → Counted allowed s d (withRounds rounds r)
+counted-rounds rounds c = record { more = c .more; within = c .within; fewer = c .fewer; none = c .none; others = c .others }
 
 -- only a plan writes values
 abbrev pub Written : Reply → Type 0

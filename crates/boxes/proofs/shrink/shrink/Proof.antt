@@ -1,22 +1,23 @@
--- `boxes::shrink::shrink` meets its contract. The loop: shrinking the rooms as they are makes the whole; the measure is the number of open values. Assumes nothing.
-use mathlib.Core.Path.{refl, sym, _∙_}
+-- `boxes::shrink::shrink` meets its contract. The loop: shrinking the rooms as they are makes the whole, with the rounds before this one in front; the measure is the number of open values. Assumes nothing.
+use mathlib.Core.Path.{sym, _∙_}
+use native.Mathlib.Omega.{arith}
 use lib.ListN.{take}
 use borrow.Author.Needs.{needs}
 use Rattle.steps.specs.Boxes.{openValues}
 use Rattle.steps.specs.Shrinking.{round}
 use Rattle.rules.proofs.Reading.WalkLaws.{sound-limits}
-use Rattle.boxes.proofs.ShrinkRounds.{Cutting, cutting-dead, cutting-done, cutting-falls, cutting-on}
+use Rattle.boxes.proofs.ShrinkRounds.{Cutting, cutting-start, rounds-small, cutting-dead, cutting-done, cutting-falls, cutting-on}
 use Rattle.boxes.proofs.shrink.shrink.Statement.{statement}
 use Rattle.boxes.proofs.shrink.shrink.Tie as tie
 
 abbrev Inv-loop : tie.InvT-loop
-Inv-loop input v next₀ next = Cutting input v next₀ next
+Inv-loop input v next₀ rounds₀ next rounds = Cutting input v next₀ next rounds
 
 abbrev μ-loop : tie.MeasureT-loop
-μ-loop input v next₀ next = openValues (take v next)
+μ-loop input v next₀ rounds₀ next rounds = openValues (take v next)
 
 loop-holds : tie.Need-loop-holds Inv-loop μ-loop
-loop-holds c = record { whole = refl; fine = c .before .pre .1; others = refl }
+loop-holds c = let a = c .before .args in cutting-start (a .input .now) (a .v) (a .rooms) (c .before .pre .1)
 
 look-round-requires : tie.Need-look-round-requires Inv-loop μ-loop
 look-round-requires c κs = c .before .before .before .pre .0
@@ -44,6 +45,12 @@ returns-2 c =
     let here = told .before .before in
     cutting-done (here .before .before .loop .inv) (here .look-round .ensures) (told .enum-told .given .1) (sym (c .before .same .ensures) ∙ c .if1 .taken)
 
+add-rounds : tie.Need-add-rounds Inv-loop μ-loop
+add-rounds c =
+    let here = c .before .before .before .before .before .before .before .before in
+    let start = here .before .before in
+    omega (arith, rounds-small (sound-limits (start .args .input .now) (start .args .v) (start .pre .0) .1) (start .pre .1) (here .loop .inv))
+
 loop-less : tie.Need-loop-less Inv-loop μ-loop
 loop-less c =
     let told = c .before .before .before .before in
@@ -69,5 +76,6 @@ shrink-spec =
     enum-told
     same-requires
     returns-2
+    add-rounds
     loop-less
     loop-again)
