@@ -43,7 +43,7 @@ module _ (input : List ℕ) (file : File) (read : reading input ≡ sound file) 
       omega (arith, few .1, ap (λ (f : File). f .v) same)
 
   -- and its rules fit them
-  pub start-fits : FitsBox (fieldsOf file) (startOf file)
+  start-fits : FitsBox (fieldsOf file) (startOf file)
   start-fits = subst (λ (v : ℕ). FieldsFit v (fieldsOf file)) (sym (start-positions file)) (read-fits input file read)
 
   -- so the counts of its search fit: no more splits than allowed, and at most one dead end more

@@ -1,9 +1,8 @@
--- The rooms that the code starts with are the box at the start, and what is shrunk and searched from there, with the rounds of the first box, is the search of the file. Assumes nothing.
+-- The rooms that the code starts with are the box at the start, and what is searched from there, with the rounds of the first box, is the search of the file. Assumes nothing.
 use mathlib.Core.Path.{_≡_, refl, sym, ap, ap₂, _∙_, subst}
 use mathlib.Core.List.{List, _∷_}
 use Prim.Native.Nat.{ℕ, zero, suc, _+_, _≤_}
 use native.Mathlib.Omega.{arith}
-use lib.Dec.{leb}
 use lib.ListN.{length, take, replicate, length-replicate}
 use lib.Seq.{length-take-le}
 use Rattle.sets.specs.Sets.{full}
@@ -14,22 +13,14 @@ use Rattle.rules.specs.Reading.{sound, reading}
 use Rattle.rules.specs.Sound.{fileOf, fieldsIn, SoundInput}
 use Rattle.rules.proofs.Reading.WalkLaws.{sound-limits}
 use Rattle.steps.specs.Boxes.{startBox, spareValues, Rooms}
-use Rattle.steps.specs.Shrinking.{shrunk}
 use Rattle.steps.specs.Rounds.{roundsOf, roundsMost}
-use Rattle.steps.specs.Search.{afterShrinking, searched}
+use Rattle.steps.specs.Reply.{withRounds}
+use Rattle.steps.specs.Search.{searched}
 use Rattle.steps.specs.Table.{startOf, planned, mostOf, mostRounds}
 use Rattle.steps.proofs.Boxes.BoxSizes.{spare-most}
 use Rattle.sound.proofs.CheckedLaws.{checked-sound}
-use Rattle.boxes.specs.declared.shrink.Shrunk.{Shrunk}
-use Rattle.boxes.specs.Promise.{Shrinks}
-use Rattle.boxes.proofs.ShrunkLaws.{rounds-told}
-use Rattle.searching.specs.declared.reply.Reply.{Reply}
-use Rattle.searching.specs.Answered.{Answered, foundIn, WasShrunk}
-use Rattle.searching.specs.Promise.{HasRounds, Searches}
-use Rattle.searching.proofs.AnsweredLaws.{answers}
-use Rattle.searching.proofs.ShrunkBoxes.{shrunk-found, was-shrunk, searched-found}
 use Rattle.planner.proofs.MostLaws.{most-reading}
-use Rattle.planner.proofs.ReplyLaws.{start-filled, start-fits}
+use Rattle.planner.proofs.ReplyLaws.{start-filled}
 
 -- the first v of 64 rooms {1..n} are the box at the start
 start-front : (v n : ℕ) → v ≤ 64 → take v (replicate 64 (full n)) ≡ startBox v n
@@ -73,29 +64,9 @@ module _ (s : List ℕ) (v n : ℕ) (checked : checkedOf (reading s) ≡ Sound v
     unfolding mostOf roundsMost
     start-most short e = ap (λ (k : ℕ). k + 1) (e ∙ ap spareValues from-start) ∙ sym (most-reading s _ (sound-checked .read) short)
 
-    -- ---- the first box
+    -- ---- the search
 
-    module _ {first : Shrunk} (shrank : Shrinks s v rooms first) where
-      -- shrunk, they may be searched
-      pub first-was : WasShrunk s v first
-      first-was = was-shrunk s v rooms start-long start-full shrank
-
-      -- their rounds are those of the file's first box
-      first-rounds : first .rounds ≡ roundsOf (fieldsOf (fileOf (reading s))) (startOf (fileOf (reading s)))
-      unfolding fieldsIn
-      first-rounds = rounds-told _ _ _ shrank ∙ ap (roundsOf (fieldsIn s)) from-start
-
-      -- the search from there, with these rounds, is the search of the file
-      pub searched-planned : (allowed : ℕ) {given r : Reply} {before after : List ℕ} → Searches s v allowed first 0 0 before given after → HasRounds given (first .rounds) r
-          → Answered (planned (fileOf (reading s)) allowed) r before after
-      unfolding planned fieldsIn
-      searched-planned allowed found has =
-          let file = fileOf (reading s) in
-          let from : afterShrinking (fieldsIn s) (leb allowed) (foundIn v first) 0 0 (searched (fieldsIn s) allowed) ≡ searched (fieldsOf file) allowed (startOf file) 0 0 =
-          searched-found (fieldsOf file) (startOf file) (start-filled s file (sound-checked .read)) (start-fits s file (sound-checked .read))
-          (shrunk-found s v rooms start-long start-full shrank ∙ ap (shrunk (fieldsOf file)) from-start) allowed 0 0 in
-          let whole = answers (sym from) found in
-          record {
-            reply = has ∙ ap₂ (λ (g : Reply) (k : ℕ). record { number = g .number; place = g .place; splits = g .splits; «dead_ends» = g .«dead_ends»; rounds = k }) (whole .reply) first-rounds;
-            memory = whole .memory;
-          }
+    -- the search from there, with the rounds of the first box, is the search of the file
+    pub searched-planned : (allowed : ℕ) → withRounds (roundsOf (fieldsIn s) (take v rooms)) (searched (fieldsIn s) allowed (take v rooms) 0 0) ≡ planned (fileOf (reading s)) allowed
+    unfolding planned fieldsIn
+    searched-planned allowed = let fields = fieldsOf (fileOf (reading s)) in ap (λ (box : List ℕ). withRounds (roundsOf fields box) (searched fields allowed box 0 0)) from-start

@@ -4,9 +4,8 @@ ghost use mathlib.Core.Path.{_≡_};
 ghost use lib.ListN.{replicate};
 ghost use Rattle.sets.specs.Sets.{full};
 ghost use Rattle.planner.specs.Promise.{Planned};
-use boxes::shrink::shrink;
+use searching::first::search_from;
 use searching::reply::Reply;
-use searching::search::search;
 use sets::Room;
 use sound::check::Checked;
 use sound::check::check;
@@ -40,9 +39,7 @@ pub fn plan(input: &[u8], answer: &mut [u8], allowance: u64) -> Reply
         Checked::Refused { number, place } => Reply::refused(number, place),
         Checked::Sound { positions, values } => {
             let v = positions as usize;
-            let first = shrink(input, v, start_rooms(values));
-            let reply = search(input, v, allowance, first, 0, 0, answer);
-            reply.with_rounds(first.rounds)
+            search_from(input, v, allowance, start_rooms(values), answer)
         }
     }
 }

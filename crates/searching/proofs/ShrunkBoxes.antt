@@ -1,5 +1,5 @@
--- What `shrink` answers is what shrinking the box has found (`shrunk-found`, `was-shrunk`); the search by what was found is the search of the box (`searched-found`). Assumes nothing.
-use mathlib.Core.Path.{_≡_, refl, sym, ap, _∙_}
+-- What `shrink` answers is what shrinking the box has found (`shrunk-found`, `was-shrunk`); the search by what was found is the search of the box (`searched-found`, `found-from`). Assumes nothing.
+use mathlib.Core.Path.{_≡_, refl, sym, ap, _∙_, subst}
 use mathlib.Core.List.{List}
 use Prim.Native.Nat.{ℕ, _≤_}
 use native.Mathlib.Omega.{arith}
@@ -13,13 +13,17 @@ use Rattle.steps.specs.Shrinking.{Look, dead, alive, shrunk}
 use Rattle.steps.specs.Search.{afterShrinking, searched}
 use Rattle.steps.proofs.Boxes.BoxLaws.{box-inside-length}
 use Rattle.steps.proofs.Boxes.BoxSizes.{open-inside}
-use Rattle.steps.proofs.Looks.FittingRules.{FitsBox}
+use Rattle.steps.proofs.Looks.FittingRules.{FieldsFit, FitsBox}
 use Rattle.steps.proofs.Looks.ShrinkLaws.{shrunk-inside}
 use Rattle.steps.proofs.Search.Walk.{searched-equation}
 use Rattle.boxes.specs.declared.shrink.Shrunk.{Shrunk}
 use Rattle.boxes.specs.Rounds.{shrunkRooms}
 use Rattle.boxes.specs.Promise.{Shrinks}
+use Rattle.boxes.proofs.ShrunkLaws.{rounds-told}
+use Rattle.searching.specs.declared.reply.Reply.{Reply}
 use Rattle.searching.specs.Answered.{foundBy, foundIn, WasShrunk}
+use Rattle.searching.specs.Promise.{HasRounds, Searches, SearchesFrom}
+use Rattle.searching.proofs.AnsweredLaws.{answers, rounds-answered}
 
 -- the number of open values of what was found: none in a dead box
 abbrev pub openFound : Look → ℕ
@@ -60,3 +64,10 @@ module _ (input : List ℕ) (v : ℕ) (rooms : List ℕ) (few : v ≤ length roo
   -- it may be searched
   pub was-shrunk : WasShrunk input v r
   was-shrunk = record { box = take v rooms; full = full; positions = length-take-le v rooms few; found = shrunk-found }
+
+  -- and what a search of it gives, with its rounds, is the search that starts with these rooms
+  pub found-from : FieldsFit v (fieldsIn input) → (allowed : ℕ) {q s : Reply} {before after : List ℕ} → Searches input v allowed r 0 0 before q after → HasRounds q (r .rounds) s
+      → SearchesFrom input v allowed rooms before s after
+  found-from fits allowed found has =
+      let box-fits = subst (λ (k : ℕ). FieldsFit k (fieldsIn input)) (sym (length-take-le v rooms few)) fits in
+      rounds-answered (answers (sym (searched-found (fieldsIn input) (take v rooms) full box-fits shrunk-found allowed 0 0)) found) has (rounds-told _ _ _ is)

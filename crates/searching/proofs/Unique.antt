@@ -5,7 +5,7 @@ use Prim.Native.Nat.{ℕ}
 use Rattle.sets.proofs.Unique.{one-result}
 use Rattle.boxes.specs.declared.shrink.Shrunk.{Shrunk}
 use Rattle.searching.specs.declared.reply.Reply.{Reply}
-use Rattle.searching.specs.Promise.{Ends, NoneAt, Refuses, HasRounds, Searches}
+use Rattle.searching.specs.Promise.{Ends, NoneAt, Refuses, HasRounds, Searches, SearchesFrom}
 
 pub ended-unique : (number splits deadEnds : ℕ) {r s : Reply} → Ends number splits deadEnds r → Ends number splits deadEnds s → r ≡ s
 ended-unique number splits deadEnds p q = one-result p q
@@ -23,3 +23,7 @@ pub search-unique : (input : List ℕ) (v allowed : ℕ) (shrunk : Shrunk) (spli
     → Searches input v allowed shrunk splits deadEnds before r after → Searches input v allowed shrunk splits deadEnds before s after′
     → (r ≡ s) × (after ≡ after′)
 search-unique input v allowed shrunk splits deadEnds before after after′ r s p q = (p .reply ∙ sym (q .reply), p .memory ∙ sym (q .memory))
+
+pub search-from-unique : (input : List ℕ) (v allowed : ℕ) (rooms before after after′ : List ℕ) (r s : Reply)
+    → SearchesFrom input v allowed rooms before r after → SearchesFrom input v allowed rooms before s after′ → (r ≡ s) × (after ≡ after′)
+search-from-unique input v allowed rooms before after after′ r s p q = (p .reply ∙ sym (q .reply), p .memory ∙ sym (q .memory))

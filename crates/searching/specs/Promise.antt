@@ -3,9 +3,11 @@ use Prim.Native.Nat.{ℕ}
 use mathlib.Core.Path.{_≡_}
 use mathlib.Core.List.{List}
 use lib.Dec.{leb}
+use lib.ListN.{take}
 use Rattle.rules.specs.Sound.{fieldsIn}
 use Rattle.steps.specs.Search.{afterShrinking, searched}
-use Rattle.steps.specs.Reply.{ended, none, refusal}
+use Rattle.steps.specs.Rounds.{roundsOf}
+use Rattle.steps.specs.Reply.{ended, none, withRounds, refusal}
 use Rattle.boxes.specs.declared.shrink.Shrunk.{Shrunk}
 use Rattle.searching.specs.declared.reply.Reply.{Reply}
 use Rattle.searching.specs.Answered.{told, Answered, foundIn}
@@ -30,3 +32,8 @@ HasRounds given rounds r = r ≡ record { number = given .number; place = given 
 abbrev pub Searches : List ℕ → ℕ → ℕ → Shrunk → ℕ → ℕ → List ℕ → Reply → List ℕ → Type 0
 Searches input v allowed shrunk splits deadEnds before r after =
     Answered (afterShrinking (fieldsIn input) (leb allowed) (foundIn v shrunk) splits deadEnds (searched (fieldsIn input) allowed)) r before after
+
+-- `search_from`: the reply of the search that starts with the first v rooms under the file's rules, with the rounds that shrinking them takes, and its values in the buffer
+abbrev pub SearchesFrom : List ℕ → ℕ → ℕ → List ℕ → List ℕ → Reply → List ℕ → Type 0
+SearchesFrom input v allowed rooms before r after =
+    Answered (withRounds (roundsOf (fieldsIn input) (take v rooms)) (searched (fieldsIn input) allowed (take v rooms) 0 0)) r before after

@@ -1,5 +1,5 @@
 -- `planner::plan::plan` meets its promise: the reply of 01's table, from which the whole promise follows. Assumes nothing.
-use mathlib.Core.Path.{_≡_, refl, sym, _∙_}
+use mathlib.Core.Path.{refl, sym, _∙_}
 use mathlib.Core.List.{List}
 use Prim.Native.Nat.{ℕ}
 use native.Mathlib.Omega.{arith}
@@ -14,10 +14,8 @@ use Rattle.searching.proofs.AnsweredLaws.{answers, nothing-written}
 use Rattle.planner.proofs.PromiseLaws.{promise-kept}
 use Rattle.planner.proofs.ReplyLaws.{reply-too-long, reply-no-room, reply-too-many, reply-reading}
 use Rattle.rules.proofs.Reading.ByteLaws.{bytes-each}
-use Rattle.sound.specs.declared.check.Checked.the-variants.{Sound}
-use Rattle.sound.specs.Checked.{checkedOf}
 use Rattle.sound.proofs.CheckedLaws.{checked-refused}
-use Rattle.planner.proofs.StartRooms.{sound-checked, start-full, first-was, searched-planned}
+use Rattle.planner.proofs.StartRooms.{sound-checked, start-full, searched-planned}
 use Rattle.planner.specs.Promise.{Planned}
 use Rattle.planner.proofs.plan.plan.Statement.{statement}
 use Rattle.planner.proofs.plan.plan.Tie as tie
@@ -67,37 +65,13 @@ cast-v c = search needs
 start-rooms-requires : tie.Need-start-rooms-requires
 start-rooms-requires c κs = search needs
 
--- a sound file, from where its starting rooms are made: what was asked, its bytes, its positions and its values
-abbrev asked : tie.After-start-rooms → tie.After-check
-asked c = c .before .before .before .before
-
-abbrev bytes : tie.After-start-rooms → List ℕ
-bytes c = asked c .before .before .before .before .before .before .args .input .now
-
-abbrev v : tie.After-start-rooms → ℕ
-v c = c .before .before .checked2 .given .0 .0
-
-abbrev n : tie.After-start-rooms → ℕ
-n c = c .before .before .checked2 .given .0 .1 .0
-
-checked : (c : tie.After-start-rooms) → checkedOf (reading (bytes c)) ≡ Sound (v c) (n c)
-checked c = sym (asked c .check .ensures) ∙ c .before .before .checked2 .given .1
-
-shrink-requires : tie.Need-shrink-requires
-shrink-requires c κs = (sound-checked (bytes c) (v c) (n c) (checked c), start-full (bytes c) (v c) (n c) (checked c) (c .start-rooms .ensures))
-
-search-requires : tie.Need-search-requires
-search-requires c κs =
-    let first = c .before in
-    let made = first .before in (
-      sound-checked (bytes made) (v made) (n made) (checked made),
-      first-was (bytes made) (v made) (n made) (checked made) (made .start-rooms .ensures) (first .shrink .ensures),
-      record { ceiling = omega arith; within = omega arith; fewer = omega arith },
-      omega arith,
-    )
-
-with-rounds-requires : tie.Need-with-rounds-requires
-with-rounds-requires c κs = search needs
+search-from-requires : tie.Need-search-from-requires
+search-from-requires c κs =
+    let s = c .before .before .before .before .before .before .before .before .before .before .before .args .input .now in
+    let v = c .before .before .before .checked2 .given .0 .0 in
+    let n = c .before .before .before .checked2 .given .0 .1 .0 in
+    let checked = sym (c .before .before .before .before .before .check .ensures) ∙ c .before .before .before .checked2 .given .1 in
+    (sound-checked s v n checked, start-full s v n checked (c .before .start-rooms .ensures), omega arith, omega arith)
 
 returns-4 : tie.Need-returns-4
 unfolding ofReading
@@ -113,13 +87,15 @@ same-length c = search needs
 returns-5 : tie.Need-returns-5
 unfolding ofReading
 returns-5 c =
-    let searched = c .before .before .before in
-    let first = searched .before .before in
-    let made = first .before in
-    let so = asked made in
-    kept (so .before .before .before .before .before)
-    (answers (reply-reading _ _ _ _ (sound-checked (bytes made) (v made) (n made) (checked made) .read) (so .before .before .before .if1 .left) (so .before .before .if2 .left) (so .before .if3 .left))
-    (searched-planned (bytes made) (v made) (n made) (checked made) (made .start-rooms .ensures) (first .shrink .ensures) _ (searched .search .ensures) (c .with-rounds .ensures)))
+    let searched = c .before .before in
+    let asked = searched .before .before .before .before .before .before in
+    let s = asked .before .before .before .before .before .before .args .input .now in
+    let v = searched .before .before .before .before .checked2 .given .0 .0 in
+    let n = searched .before .before .before .before .checked2 .given .0 .1 .0 in
+    let checked = sym (asked .check .ensures) ∙ searched .before .before .before .before .checked2 .given .1 in
+    kept (asked .before .before .before .before .before)
+    (answers (reply-reading _ _ _ _ (sound-checked s v n checked .read) (asked .before .before .before .if1 .left) (asked .before .before .if2 .left) (asked .before .if3 .left)
+    ∙ sym (searched-planned s v n checked (searched .before .before .start-rooms .ensures) _)) (searched .search-from .ensures))
 
 pub plan-spec : {M : Type 1} → statement M
 plan-spec =
@@ -137,9 +113,7 @@ plan-spec =
     enum-known-checked-2
     cast-v
     start-rooms-requires
-    shrink-requires
-    search-requires
-    with-rounds-requires
+    search-from-requires
     returns-4
     same-length
     returns-5)
