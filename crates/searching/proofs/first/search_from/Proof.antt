@@ -22,7 +22,7 @@ search-requires : tie.Need-search-requires
 search-requires c κs =
     let start = c .before .before .before .before in
     let a = start .args in
-    (start .pre .0, was-shrunk (a .input .now) (a .v) (a .rooms) (long start) (start .pre .1) (c .before .shrink .ensures), record { ceiling = start .pre .2; within = omega arith; fewer = omega arith }, start .pre .3)
+    (start .pre .0, was-shrunk (a .input .now) (a .v) (a .rooms) (long start) (start .pre .1) (c .before .shrink .ensures), record { ceiling = omega (arith, start .pre .2); within = omega arith; fewer = omega arith }, start .pre .3)
 
 with-rounds-requires : tie.Need-with-rounds-requires
 with-rounds-requires c κs = tt
