@@ -21,26 +21,25 @@ use Rattle.steps.proofs.Demands.{start-positions}
 use Rattle.steps.proofs.Looks.FittingRules.{FieldsFit, FitsBox, read-fits}
 use Rattle.steps.proofs.Looks.RoundLaws.{rounds-bound}
 use Rattle.steps.proofs.Search.Counts.{Counted, Written, counted-rounds, search-counts, search-written}
-use Rattle.rules.specs.Sound.{fileOf}
+use Rattle.rules.specs.Sound.{fileOf, SoundInput}
 use Rattle.rules.proofs.Reading.WalkLaws.{sound-limits, sound-values}
 use Rattle.planner.specs.Promise.{Accepted}
 
 module _ (input : List ℕ) (file : File) (read : reading input ≡ sound file) where
+  -- the file is the one that the bytes are, so they are a sound input of its positions
+  is-file : fileOf (reading input) ≡ file
+  unfolding fileOf
+  is-file = ap fileOf read
+
+  sound-input : SoundInput input (file .v)
+  sound-input = record { read = read ∙ ap sound (sym is-file); positions = ap (λ (f : File). f .v) is-file }
+
   -- the rooms that the search of a file that was read starts with are not empty
   pub start-filled : Rooms (startOf file)
-  unfolding startOf fileOf
+  unfolding startOf
   start-filled =
-      let same : fileOf (reading input) ≡ file = ap fileOf read in
-      let values = sound-values input (fileOf (reading input) .v) (record { read = read ∙ ap sound (sym same); positions = refl }) in
-      subst (λ (f : File). Rooms (startBox (f .v) (f .n))) same (start-rooms (fileOf (reading input) .v) (fileOf (reading input) .n) (values .0) (values .1))
-
-  -- they are 64 at most
-  positions-few : file .v ≤ 64
-  unfolding fileOf
-  positions-few =
-      let same : fileOf (reading input) ≡ file = ap fileOf read in
-      let few = sound-limits input (fileOf (reading input) .v) (record { read = read ∙ ap sound (sym same); positions = refl }) in
-      omega (arith, few .1, ap (λ (f : File). f .v) same)
+      let values = sound-values input (file .v) sound-input in
+      subst (λ (f : File). Rooms (startBox (f .v) (f .n))) is-file (start-rooms (fileOf (reading input) .v) (fileOf (reading input) .n) (values .0) (values .1))
 
   -- and its rules fit them
   start-fits : FitsBox (fieldsOf file) (startOf file)
@@ -54,7 +53,7 @@ module _ (input : List ℕ) (file : File) (read : reading input ≡ sound file) 
   -- its rounds are few
   pub read-rounds : (allowed : ℕ) → planned file allowed .rounds ≤ 1985
   unfolding planned roundsMost
-  read-rounds allowed = omega (arith, rounds-bound (fieldsOf file) (startOf file) start-filled, spare-most (startOf file) start-filled, start-positions file, positions-few)
+  read-rounds allowed = omega (arith, rounds-bound (fieldsOf file) (startOf file) start-filled, spare-most (startOf file) start-filled, start-positions file, sound-limits input (file .v) sound-input .1)
 
   -- and only a plan that it gives has values
   read-written : (allowed : ℕ) → Written (planned file allowed)

@@ -1,10 +1,11 @@
 -- Any two results that the promises of `src/` allow are equal. Assumes nothing.
-use mathlib.Core.Path.{_≡_, sym, _∙_}
+use mathlib.Core.Path.{_≡_}
 use mathlib.Core.List.{List}
 use Prim.Native.Nat.{ℕ}
 use Rattle.sets.proofs.Unique.{one-result}
 use Rattle.boxes.specs.declared.shrink.Shrunk.{Shrunk}
 use Rattle.searching.specs.declared.reply.Reply.{Reply}
+use Rattle.searching.proofs.AnsweredLaws.{answered-unique}
 use Rattle.searching.specs.Promise.{Ends, NoneAt, Refuses, HasRounds, Searches, SearchesFrom}
 
 pub ended-unique : (number splits deadEnds : ℕ) {r s : Reply} → Ends number splits deadEnds r → Ends number splits deadEnds s → r ≡ s
@@ -22,8 +23,8 @@ with-rounds-unique given rounds p q = one-result p q
 pub search-unique : (input : List ℕ) (v allowed : ℕ) (shrunk : Shrunk) (splits deadEnds : ℕ) (before after after′ : List ℕ) (r s : Reply)
     → Searches input v allowed shrunk splits deadEnds before r after → Searches input v allowed shrunk splits deadEnds before s after′
     → (r ≡ s) × (after ≡ after′)
-search-unique input v allowed shrunk splits deadEnds before after after′ r s p q = (p .reply ∙ sym (q .reply), p .memory ∙ sym (q .memory))
+search-unique input v allowed shrunk splits deadEnds before after after′ r s p q = answered-unique p q
 
 pub search-from-unique : (input : List ℕ) (v allowed : ℕ) (rooms before after after′ : List ℕ) (r s : Reply)
     → SearchesFrom input v allowed rooms before r after → SearchesFrom input v allowed rooms before s after′ → (r ≡ s) × (after ≡ after′)
-search-from-unique input v allowed rooms before after after′ r s p q = (p .reply ∙ sym (q .reply), p .memory ∙ sym (q .memory))
+search-from-unique input v allowed rooms before after after′ r s p q = answered-unique p q

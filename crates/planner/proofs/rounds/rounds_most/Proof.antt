@@ -66,7 +66,7 @@ returns-2 c =
 returns-3 : tie.Need-returns-3
 returns-3 c =
     let made = c .before .before in
-    most-kept _ (start-most (bytes made) (v made) (n made) (checked made) (made .start-rooms .ensures) (asked made .before .if1 .left) (c .spare-values .ensures))
+    most-kept _ (omega (arith, start-most (bytes made) (v made) (n made) (checked made) (made .start-rooms .ensures) (asked made .before .if1 .left) (c .spare-values .ensures)))
 
 pub rounds-most-spec : {M : Type 1} → statement M
 rounds-most-spec =
