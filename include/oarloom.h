@@ -19,8 +19,8 @@
  *   - Memory that a function may write overlaps no other memory of the same call: the buffer, the
  *     five cells and the input all lie apart. Nothing else writes to any of them until it returns.
  *   - A uint64_t cell is aligned as a uint64_t is, and may be read and written.
- *   - oarloom_plan has 8 MiB of stack. Most files need little, but the deepest searches need more
- *     than 4 MiB. A thread may have less than the program's first one: give it 8 MiB at its start.
+ *   - oarloom_plan has 2 MiB of stack. Most files need little; the deepest searches need 1.6 MiB,
+ *     and the rest is to spare. A thread may have less: give it 2 MiB at its start.
  */
 #ifndef OARLOOM_H
 #define OARLOOM_H

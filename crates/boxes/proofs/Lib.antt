@@ -3,5 +3,4 @@ pub mod FieldLooks
 pub mod LooksInTurn
 pub mod SameRooms
 pub mod ShrinkRounds
-pub mod ShrunkLaws
 pub mod Unique

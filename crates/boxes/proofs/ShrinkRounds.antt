@@ -25,7 +25,8 @@ use Rattle.steps.proofs.Looks.RoundLaws.{rounds-least, rounds-bound, round-dies
 use Rattle.clauses.specs.Looks.{AfterLook, Leaves}
 use Rattle.boxes.specs.declared.shrink.Verdict.{Verdict}
 use Rattle.boxes.specs.declared.shrink.Verdict.the-variants.{Alive, Dead}
-use Rattle.boxes.specs.Rounds.{Rounded, shrunkRooms}
+use Rattle.boxes.specs.Rounds.{Rounded, verdictOf, roomsLeft}
+use Rattle.boxes.specs.Promise.{Shrinks}
 use Rattle.boxes.proofs.LooksInTurn.{LeftToLook, left-all, left-none, left-dead, left-then, rule-keeps, after-alive, after-dead}
 
 -- ---- a round
@@ -95,19 +96,23 @@ module _ {s : List ℕ} {v : ℕ} {start rooms : List ℕ} {rounds : ℕ} (cutti
   abbrev fields : List Field
   fields = fieldsIn s
 
-  -- the answer, where shrinking these rooms takes one round and comes to l
-  answered : (l : Look) → (shrunk fields (take v rooms) ≡ l) × (roundsOf fields (take v rooms) ≡ 1)
-      → shrunkRooms (shrunk fields (take v start)) (drop v start) (roundsOf fields (take v start)) ≡ shrunkRooms l (drop v start) rounds
-  answered l last = ap₂ (λ (m : Look) (k : ℕ). shrunkRooms m (drop v start) k) (cutting .whole ∙ last .0) (omega (arith, cutting .counted, last .1))
+  -- the answer and the rooms, where shrinking these rooms takes one round and comes to l
+  answered : (l : Look) → (shrunk fields (take v rooms) ≡ l) × (roundsOf fields (take v rooms) ≡ 1) → {left : List ℕ} → left ≡ roomsLeft l (drop v start)
+      → Shrinks s v start (record { verdict = verdictOf l; rounds = rounds }) left
+  answered l last e =
+      let found : l ≡ shrunk fields (take v start) = sym (cutting .whole ∙ last .0) in
+      record {
+        answer = ap₂ (λ (m : Look) (k : ℕ). record { verdict = verdictOf m; rounds = k }) found (omega (arith, cutting .counted, last .1));
+        rooms = e ∙ ap (λ (m : Look). roomsLeft m (drop v start)) found;
+      }
 
   -- where the next round is dead, so is the whole
-  pub cutting-dead : (p : ℕ) → r ≡ Dead p
-      → record { verdict = Dead p; rooms = replicate 64 0; rounds = rounds } ≡ shrunkRooms (shrunk fields (take v start)) (drop v start) (roundsOf fields (take v start))
-  unfolding shrunkRooms
+  pub cutting-dead : (p : ℕ) → r ≡ Dead p → Shrinks s v start (record { verdict = Dead p; rounds = rounds }) (replicate 64 0)
+  unfolding verdictOf roomsLeft
   cutting-dead p e =
       let d = after-dead Dead Alive (round fields (take v rooms)) r after (drop v rooms) (rounded .leaves) (λ f. let z : _≡_ {A = ℕ} 0 1 = cc in omega arith) in
       let same : d .0 ≡ p = let f = d .2 in cc in
-      sym (answered (dead p) (round-dies fields (take v rooms) (cutting .fine) p (d .1 ∙ ap dead same)))
+      answered (dead p) (round-dies fields (take v rooms) (cutting .fine) p (d .1 ∙ ap dead same)) refl
 
   module _ (lives : r ≡ Alive) where
     found : (box : List ℕ) × (round fields (take v rooms) ≡ alive box) × (after ≡ box ++ drop v rooms)
@@ -123,15 +128,14 @@ module _ {s : List ℕ} {v : ℕ} {start rooms : List ℕ} {rounds : ℕ} (cutti
     next-round : round fields (take v rooms) ≡ alive (take v after)
     next-round = found .1 ∙ ap alive (sym (kept .0))
 
-    -- where the next round changes nothing, its rooms are the answer
-    pub cutting-done : sameRooms (take v after) (take v rooms) ≡ true
-        → record { verdict = Alive; rooms = after; rounds = rounds } ≡ shrunkRooms (shrunk fields (take v start)) (drop v start) (roundsOf fields (take v start))
-    unfolding shrunkRooms
+    -- where the next round changes nothing, its rooms are left
+    pub cutting-done : sameRooms (take v after) (take v rooms) ≡ true → Shrinks s v start (record { verdict = Alive; rounds = rounds }) after
+    unfolding verdictOf roomsLeft
     cutting-done t =
         let same : take v after ≡ take v rooms = same-rooms-iff (take v after) (take v rooms) .0 (true-test (sameRooms (take v after) (take v rooms)) t) in
         let last = round-rests fields (take v rooms) (cutting .fine) (next-round ∙ ap alive same) in
         let all : take v rooms ++ drop v start ≡ after = ap₂ _++_ (sym same) (sym (kept .1 ∙ cutting .others)) ∙ take-append-drop v after in
-        sym (answered (alive (take v rooms)) last ∙ ap (λ (l : List ℕ). record { verdict = Alive; rooms = l; rounds = rounds }) all)
+        answered (alive (take v rooms)) last (sym all)
 
     module _ (t : sameRooms (take v after) (take v rooms) ≡ false) where
       changed : take v after ≡ take v rooms → ⊥

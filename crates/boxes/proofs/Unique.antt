@@ -6,5 +6,6 @@ use Rattle.sets.proofs.Unique.{one-result}
 use Rattle.boxes.specs.declared.shrink.Shrunk.{Shrunk}
 use Rattle.boxes.specs.Promise.{Shrinks}
 
-pub shrink-unique : (input : List ℕ) (v : ℕ) (rooms : List ℕ) {r s : Shrunk} → Shrinks input v rooms r → Shrinks input v rooms s → r ≡ s
-shrink-unique input v rooms p q = one-result p q
+pub shrink-unique : (input : List ℕ) (v : ℕ) (before : List ℕ) {r s : Shrunk} {after last : List ℕ} → Shrinks input v before r after → Shrinks input v before s last
+    → (r ≡ s) × (after ≡ last)
+shrink-unique input v before p q = (one-result (p .answer) (q .answer), one-result (p .rooms) (q .rooms))

@@ -1,4 +1,4 @@
--- What a round leaves, and what shrinking answers: a verdict, rooms in an array of 64, and how many rounds it took. Assumes nothing.
+-- What a round leaves, and what shrinking answers, a verdict, and leaves, rooms in an array of 64. Assumes nothing.
 use Prim.Native.Nat.{ℕ}
 use mathlib.Core.List.{List, _++_}
 use lib.ListN.{take, drop, replicate}
@@ -7,13 +7,17 @@ use Rattle.steps.specs.Shrinking.{Look, dead, alive, round}
 use Rattle.clauses.specs.Looks.{AfterLook}
 use Rattle.boxes.specs.declared.shrink.Verdict.{Verdict}
 use Rattle.boxes.specs.declared.shrink.Verdict.the-variants.{Alive, Dead}
-use Rattle.boxes.specs.declared.shrink.Shrunk.{Shrunk}
 
 -- what a round over the first v rooms leaves: the place of a dead field; or the rooms of the box in front of the others
 pub record Rounded (input : List ℕ) (v : ℕ) (before : List ℕ) (r : Verdict) (after : List ℕ) : Type 0 where
   pub leaves : AfterLook Dead Alive (round (fieldsIn input) (take v before)) r after (drop v before)
 
--- the verdict, the rooms and the rounds that shrinking answers: where it is dead no room has a value
-unfoldable pub shrunkRooms : Look → List ℕ → ℕ → Shrunk
-shrunkRooms (dead place) rest rounds = record { verdict = Dead place; rooms = replicate 64 0; rounds = rounds }
-shrunkRooms (alive box) rest rounds = record { verdict = Alive; rooms = box ++ rest; rounds = rounds }
+-- the verdict that shrinking answers
+unfoldable pub verdictOf : Look → Verdict
+verdictOf (dead place) = Dead place
+verdictOf (alive box) = Alive
+
+-- the rooms that shrinking leaves: where it is dead no room has a value
+unfoldable pub roomsLeft : Look → List ℕ → List ℕ
+roomsLeft (dead place) rest = replicate 64 0
+roomsLeft (alive box) rest = box ++ rest

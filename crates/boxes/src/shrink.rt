@@ -27,10 +27,9 @@ pub enum Verdict {
     Dead(usize),
 }
 
-// The verdict, the rooms of a box that lives, and the rounds that shrinking took.
+// The verdict, and the rounds that shrinking took.
 pub struct Shrunk {
     pub verdict: Verdict,
-    pub rooms: [u32; Room::POSITIONS],
     pub rounds: u64,
 }
 
@@ -90,30 +89,28 @@ pub(crate) fn same(a: &[u32; Room::POSITIONS], b: &[u32; Room::POSITIONS], v: us
     true
 }
 
-// Shrinks the box of the first v rooms under the rules of a sound file: the rooms as they are where
-// nothing is left to cut, or the place of the field first found dead, with no rooms. The last round
-// counts too, whether it changes nothing or finds a dead field.
-pub fn shrink(input: &[u8], v: usize, rooms: [u32; Room::POSITIONS]) -> Shrunk
-    requires { ⌜ SoundInput (now input) v × Rooms (take v rooms) ⌝ }
-    ensures { λ r. ⌜ Shrinks (now (input .entry)) v rooms r ⌝ }
+// Shrinks the box of the first v rooms under the rules of a sound file, where it stands: the rooms are
+// left as they are where nothing is left to cut, and with no value in any of them where a field was
+// found dead. The last round counts too, whether it changes nothing or finds a dead field.
+pub fn shrink(input: &[u8], v: usize, rooms: &mut [u32; Room::POSITIONS]) -> Shrunk
+    requires { ⌜ SoundInput (now input) v × Rooms (take v (now rooms)) ⌝ }
+    ensures { λ r. ⌜ Shrinks (now (input .entry)) v (now (rooms .entry)) r (now (rooms .exit)) ⌝ }
 {
-    let mut next = rooms;
     // The number of the round that is gone through.
     let mut rounds = 1;
     loop {
-        let before = next;
-        let verdict = look_round(input, v, &mut next);
+        let before = *rooms;
+        let verdict = look_round(input, v, rooms);
         if let Verdict::Dead(place) = verdict {
+            *rooms = [0u32; Room::POSITIONS];
             return Shrunk {
                 verdict: Verdict::Dead(place),
-                rooms: [0u32; Room::POSITIONS],
                 rounds,
             };
         }
-        if same(&next, &before, v) {
+        if same(rooms, &before, v) {
             return Shrunk {
                 verdict: Verdict::Alive,
-                rooms: next,
                 rounds,
             };
         }

@@ -3,5 +3,7 @@ pub mod FrontRooms
 pub mod PositionsInTurn
 pub mod ScanLaws
 pub mod SettledClauses
+pub mod TriedLaws
 pub mod Unique
 pub mod UnitedLaws
+pub mod UnitedScan

@@ -1,3 +1,4 @@
 pub mod Looks
 pub mod Scans
+pub mod Tried
 pub mod Promise

@@ -5,3 +5,5 @@
 // and stay as they are.
 pub mod look;
 pub mod settle;
+mod tried;
+pub mod united;

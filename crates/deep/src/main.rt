@@ -1,6 +1,6 @@
 // Runs `plan` on a file whose search is nearly as deep as a search can be, and prints the reply in
 // one line: its number, place, splits, dead ends and rounds, and the 64 bytes of the answer. It shows
-// that this depth fits a stack of 8 MiB.
+// that this depth fits a stack of 2 MiB: no more is left to the planner (stack.rt).
 //
 // The file has v 64 and n 32. Each position p from 1 to 63 has the clauses [p{32} q{1}] and
 // [p{32} q{2}], where q is position 64; the clause [q{1,2}] is last and leaves q the room {1,2}. A
@@ -14,12 +14,11 @@
 // written from the text of 01 and 02 alone, with sets of values in place of masks, gave the same.
 mod file;
 mod line;
-
-use planner::plan::plan;
+mod stack;
 
 fn main() {
     let input = file::deep();
     let mut answer = [0; 64];
-    let reply = plan(&input, &mut answer, 1_000_000);
+    let reply = stack::plan_in_little_stack(&input, &mut answer);
     line::show(reply, &answer);
 }

@@ -1,5 +1,5 @@
 -- What `shrink` answers is what shrinking the box has found (`shrunk-found`, `was-shrunk`); the search by what was found is the search of the box (`searched-found`, `found-from`). Assumes nothing.
-use mathlib.Core.Path.{_≡_, refl, sym, ap, _∙_, subst}
+use mathlib.Core.Path.{_≡_, refl, sym, ap, ap₂, _∙_, subst}
 use mathlib.Core.List.{List}
 use Prim.Native.Nat.{ℕ, _≤_}
 use native.Mathlib.Omega.{arith}
@@ -17,11 +17,11 @@ use Rattle.steps.proofs.Looks.FittingRules.{FieldsFit, FitsBox}
 use Rattle.steps.proofs.Looks.ShrinkLaws.{shrunk-inside}
 use Rattle.steps.proofs.Search.Walk.{searched-equation}
 use Rattle.boxes.specs.declared.shrink.Shrunk.{Shrunk}
-use Rattle.boxes.specs.Rounds.{shrunkRooms}
+use Rattle.boxes.specs.declared.shrink.Verdict.{Verdict}
+use Rattle.boxes.specs.Rounds.{verdictOf, roomsLeft}
 use Rattle.boxes.specs.Promise.{Shrinks}
-use Rattle.boxes.proofs.ShrunkLaws.{rounds-told}
 use Rattle.searching.specs.declared.reply.Reply.{Reply}
-use Rattle.searching.specs.Answered.{foundBy, foundIn, WasShrunk}
+use Rattle.searching.specs.Answered.{foundBy, WasShrunk}
 use Rattle.searching.specs.Promise.{HasRounds, Searches, SearchesFrom}
 use Rattle.searching.proofs.AnsweredLaws.{answers, rounds-answered}
 
@@ -39,12 +39,13 @@ module _ (fields : List Field) (box : List ℕ) (full : Rooms box) where
       go (dead place) e = omega arith
       go (alive inner) e = let i = shrunk-inside fields box inner full e in open-inside inner box (i .1) full (i .0)
 
-  -- the verdict and the first v rooms of the answer say what shrinking a box of v rooms has found
-  found-of : {v : ℕ} → length box ≡ v → (rest : List ℕ) (rounds : ℕ) {r : Shrunk} → r ≡ shrunkRooms (shrunk fields box) rest rounds → foundIn v r ≡ shrunk fields box
-  unfolding shrunkRooms foundBy
-  found-of {v} long rest rounds is = ap (foundIn v) is ∙ go (shrunk fields box) refl
+  -- the verdict and the first v of the rooms that are left say what shrinking a box of v rooms has found
+  found-of : {v : ℕ} → length box ≡ v → (rest : List ℕ) {verdict : Verdict} {rooms : List ℕ} → verdict ≡ verdictOf (shrunk fields box) → rooms ≡ roomsLeft (shrunk fields box) rest
+      → foundBy v verdict rooms ≡ shrunk fields box
+  unfolding verdictOf roomsLeft foundBy
+  found-of {v} long rest told left = ap₂ (foundBy v) told left ∙ go (shrunk fields box) refl
     where
-      go : (l : Look) → shrunk fields box ≡ l → foundIn v (shrunkRooms l rest rounds) ≡ l
+      go : (l : Look) → shrunk fields box ≡ l → foundBy v (verdictOf l) (roomsLeft l rest) ≡ l
       go (dead place) e = refl
       go (alive inner) e = ap alive (take-at inner rest v (box-inside-length inner box (shrunk-inside fields box inner full e .0) ∙ long))
 
@@ -56,18 +57,18 @@ module _ (fields : List Field) (box : List ℕ) (full : Rooms box) where
 
 -- ---- the first v rooms of an array, shrunk by the code
 
-module _ (input : List ℕ) (v : ℕ) (rooms : List ℕ) (few : v ≤ length rooms) (full : Rooms (take v rooms)) {r : Shrunk} (is : Shrinks input v rooms r) where
+module _ (input : List ℕ) (v : ℕ) (rooms : List ℕ) (few : v ≤ length rooms) (full : Rooms (take v rooms)) {r : Shrunk} {left : List ℕ} (is : Shrinks input v rooms r left) where
   -- what was found of them
-  pub shrunk-found : foundIn v r ≡ shrunk (fieldsIn input) (take v rooms)
-  shrunk-found = found-of (fieldsIn input) (take v rooms) full (length-take-le v rooms few) (drop v rooms) _ is
+  pub shrunk-found : foundBy v (r .verdict) left ≡ shrunk (fieldsIn input) (take v rooms)
+  shrunk-found = found-of (fieldsIn input) (take v rooms) full (length-take-le v rooms few) (drop v rooms) (ap (λ (s : Shrunk). s .verdict) (is .answer)) (is .rooms)
 
   -- it may be searched
-  pub was-shrunk : WasShrunk input v r
+  pub was-shrunk : WasShrunk input v (r .verdict) left
   was-shrunk = record { box = take v rooms; full = full; positions = length-take-le v rooms few; found = shrunk-found }
 
   -- and what a search of it gives, with its rounds, is the search that starts with these rooms
-  pub found-from : FieldsFit v (fieldsIn input) → (allowed : ℕ) {q s : Reply} {before after : List ℕ} → Searches input v allowed r 0 0 before q after → HasRounds q (r .rounds) s
-      → SearchesFrom input v allowed rooms before s after
+  pub found-from : FieldsFit v (fieldsIn input) → (allowed : ℕ) {q s : Reply} {before after : List ℕ} → Searches input v allowed (r .verdict) left 0 0 before q after
+      → HasRounds q (r .rounds) s → SearchesFrom input v allowed rooms before s after
   found-from fits allowed found has =
       let box-fits = subst (λ (k : ℕ). FieldsFit k (fieldsIn input)) (sym (length-take-le v rooms few)) fits in
-      rounds-answered (answers (sym (searched-found (fieldsIn input) (take v rooms) full box-fits shrunk-found allowed 0 0)) found) has (rounds-told _ _ _ is)
+      rounds-answered (answers (sym (searched-found (fieldsIn input) (take v rooms) full box-fits shrunk-found allowed 0 0)) found) has (ap (λ (s : Shrunk). s .rounds) (is .answer))

@@ -32,7 +32,7 @@ use Rattle.boxes.specs.declared.shrink.Verdict.the-variants.{Alive, Dead}
 use Rattle.boxes.specs.declared.shrink.Shrunk.{Shrunk}
 use Rattle.boxes.specs.Promise.{Shrinks}
 use Rattle.searching.specs.declared.reply.Reply.{Reply}
-use Rattle.searching.specs.Answered.{told, Answered, foundBy, foundIn, WasShrunk, Counts}
+use Rattle.searching.specs.Answered.{told, Answered, foundBy, WasShrunk, Counts}
 use Rattle.searching.specs.Promise.{Searches}
 use Rattle.searching.proofs.AnsweredLaws.{answers, nothing-written}
 use Rattle.searching.proofs.ShrunkBoxes.{openFound, open-found, shrunk-found, was-shrunk, searched-found}
@@ -45,13 +45,14 @@ use Rattle.steps.proofs.Search.Counts.{search-counts, search-written}
 pub record Given : Type 0 where
   pub input : List ℕ
   pub v : ℕ
-  pub shrunken : Shrunk
+  pub verdict : Verdict
+  pub rooms : List ℕ
   pub allowed : ℕ
   pub splits : ℕ
   pub deadEnds : ℕ
   pub before : List ℕ
   pub small : v ≤ 64
-  pub was : WasShrunk input v shrunken
+  pub was : WasShrunk input v verdict rooms
   pub fits : FieldsFit v (fieldsIn input)
 
 module _ (given : Given) where
@@ -65,7 +66,7 @@ module _ (given : Given) where
   box = given .was .box
 
   abbrev pub look : Look
-  look = foundIn v (given .shrunken)
+  look = foundBy v (given .verdict) (given .rooms)
 
   abbrev allowed : ℕ
   allowed = given .allowed
@@ -92,30 +93,19 @@ module _ (given : Given) where
     pub full : Rooms (take v saved)
     pub length-v : length (take v saved) ≡ v
 
-  pub saved-of : given .shrunken .verdict ≡ Alive → Saved (given .shrunken .rooms)
+  pub saved-of : given .verdict ≡ Alive → Saved (given .rooms)
   unfolding foundBy
   saved-of e =
-      let lives : look ≡ alive (take v (given .shrunken .rooms)) = ap (λ (w : Verdict). foundBy v w (given .shrunken .rooms)) e in
+      let lives : look ≡ alive (take v (given .rooms)) = ap (λ (w : Verdict). foundBy v w (given .rooms)) e in
       let shrank = sym (given .was .found) ∙ lives in
-      let i = shrunk-inside fields box (take v (given .shrunken .rooms)) (given .was .full) shrank in
-      record { lives = lives; shrank = shrank; inside = i .0; full = i .1; length-v = box-inside-length (take v (given .shrunken .rooms)) box (i .0) ∙ given .was .positions }
+      let i = shrunk-inside fields box (take v (given .rooms)) (given .was .full) shrank in
+      record { lives = lives; shrank = shrank; inside = i .0; full = i .1; length-v = box-inside-length (take v (given .rooms)) box (i .0) ∙ given .was .positions }
 
   -- ---- the ends of a box that is not split
 
-  pub ends-dead : (place : ℕ) → given .shrunken .verdict ≡ Dead place → {r : Reply} → r ≡ told (none place s (d + 1)) → Ends r (given .before)
+  pub ends-dead : (place : ℕ) → given .verdict ≡ Dead place → {r : Reply} → r ≡ told (none place s (d + 1)) → Ends r (given .before)
   unfolding foundBy
-  ends-dead place e q = answers (ap (λ (w : Verdict). afterShrinking fields (leb allowed) (foundBy v w (given .shrunken .rooms)) s d (searched fields allowed)) e) (nothing-written q refl)
-
-  -- the smallest values of a shrunk box fit into bytes
-  pub values-small : {saved : List ℕ} → Saved saved → {values : List ℕ} → values ≡ smallestOf (take v saved) ++ replicate (64 - v) 0 → Every (λ x. x < 256) (take v values)
-  unfolding smallestOf
-  values-small {saved} kept {values} e =
-      let long : length (smallestOf (take v saved)) ≡ v = length-map (take v saved) smallest ∙ kept .length-v in
-      let front : take v values ≡ smallestOf (take v saved) = ap (take v) e ∙ take-at (smallestOf (take v saved)) (replicate (64 - v) 0) v long in
-      subst (Every (λ x. x < 256)) (sym front)
-      (every-over-map (λ x. x < 256) smallest (take v saved) .1
-      (every-map (λ room. (room < 2 ^ 32) × (room ≡ 0 → ⊥)) (λ room. smallest room < 256) (take v saved) (λ room h. omega (arith, smallest-range room (h .0) (h .1) .1))
-      (kept .full)))
+  ends-dead place e q = answers (ap (λ (w : Verdict). afterShrinking fields (leb allowed) (foundBy v w (given .rooms)) s d (searched fields allowed)) e) (nothing-written q refl)
 
   -- a shrunk box in which no room is left to split is settled
   module _ {saved : List ℕ} (kept : Saved saved) (i : ℕ) (at : i ≡ chosen fields (take v saved)) where
@@ -133,21 +123,15 @@ module _ (given : Given) where
         go true e = absurd (omega (arith, at, kept .length-v, exactly .0 e))
         go false e = e
 
-    pub ends-settled : v ≤ i → {values after : List ℕ} → values ≡ smallestOf (take v saved) ++ replicate (64 - v) 0
-        → after ≡ over (take v values) (given .before) → {r : Reply} → r ≡ told (ended 0 0 s d) → Ends r after
-    unfolding smallestOf
-    ends-settled l {values} {after} e m q =
-        let long : length (smallestOf (take v saved)) ≡ v = length-map (take v saved) smallest ∙ kept .length-v in
-        let front : take v values ≡ smallestOf (take v saved) = ap (take v) e ∙ take-at (smallestOf (take v saved)) (replicate (64 - v) 0) v long in
-        answers {given = plan (smallestOf (take v saved)) s d} (rw (kept .lives, is-settled l) refl)
-        (record { reply = q; memory = m ∙ ap (λ (xs : List ℕ). over xs (given .before)) front })
+    pub ends-settled : v ≤ i → {after : List ℕ} → after ≡ over (smallestOf (take v saved)) (given .before) → {r : Reply} → r ≡ told (ended 0 0 s d) → Ends r after
+    ends-settled l m q = answers {given = plan (smallestOf (take v saved)) s d} (rw (kept .lives, is-settled l) refl) (record { reply = q; memory = m })
 
   -- ---- a box that is split at an index
 
   -- what may be searched next: it was found by shrinking, and has fewer open values
-  pub record Next (r : Shrunk) : Type 0 where
-    pub was : WasShrunk (given .input) v r
-    pub falls : openFound (foundIn v r) < openFound look
+  pub record Next (verdict : Verdict) (rooms : List ℕ) : Type 0 where
+    pub was : WasShrunk (given .input) v verdict rooms
+    pub falls : openFound (foundBy v verdict rooms) < openFound look
 
   pub record Split (saved : List ℕ) (i : ℕ) : Type 0 where
     pub kept : Saved saved
@@ -231,19 +215,19 @@ module _ (given : Given) where
       half-fits : FitsBox fields part
       half-fits = fits-inside fields part inner (half .inward) (fits-inside fields inner box (split .kept .inside) box-fits)
 
-      module _ {r : Shrunk} (answer : Shrinks (given .input) v rooms r) where
-        half-found : foundIn v r ≡ shrunk fields part
+      module _ {r : Shrunk} {left : List ℕ} (answer : Shrinks (given .input) v rooms r left) where
+        half-found : foundBy v (r .verdict) left ≡ shrunk fields part
         half-found = shrunk-found (given .input) v rooms half-long half-rooms answer ∙ ap (shrunk fields) (half .front)
 
         -- shrunk, it may be searched next
-        pub half-next : Next r
+        pub half-next : Next (r .verdict) left
         half-next = record {
           was = was-shrunk (given .input) v rooms half-long half-rooms answer;
           falls = omega (arith, ap openFound half-found, open-found fields part (half .full), half .fewer, ap openFound (split .kept .lives));
         }
 
         -- and its search is that of the half
-        pub half-searched : (s′ d′ : ℕ) {q : Reply} {b a : List ℕ} → Searches (given .input) v allowed r s′ d′ b q a → Answered (searched fields allowed part s′ d′) q b a
+        pub half-searched : (s′ d′ : ℕ) {q : Reply} {b a : List ℕ} → Searches (given .input) v allowed (r .verdict) left s′ d′ b q a → Answered (searched fields allowed part s′ d′) q b a
         half-searched s′ d′ = answers (sym (searched-found fields part (half .full) half-fits half-found allowed s′ d′))
 
     -- ---- the replies of both halves

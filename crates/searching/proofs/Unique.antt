@@ -3,7 +3,7 @@ use mathlib.Core.Path.{_≡_}
 use mathlib.Core.List.{List}
 use Prim.Native.Nat.{ℕ}
 use Rattle.sets.proofs.Unique.{one-result}
-use Rattle.boxes.specs.declared.shrink.Shrunk.{Shrunk}
+use Rattle.boxes.specs.declared.shrink.Verdict.{Verdict}
 use Rattle.searching.specs.declared.reply.Reply.{Reply}
 use Rattle.searching.proofs.AnsweredLaws.{answered-unique}
 use Rattle.searching.specs.Promise.{Ends, NoneAt, Refuses, HasRounds, Searches, SearchesFrom}
@@ -20,10 +20,10 @@ refused-unique number place p q = one-result p q
 pub with-rounds-unique : (given : Reply) (rounds : ℕ) {r s : Reply} → HasRounds given rounds r → HasRounds given rounds s → r ≡ s
 with-rounds-unique given rounds p q = one-result p q
 
-pub search-unique : (input : List ℕ) (v allowed : ℕ) (shrunk : Shrunk) (splits deadEnds : ℕ) (before after after′ : List ℕ) (r s : Reply)
-    → Searches input v allowed shrunk splits deadEnds before r after → Searches input v allowed shrunk splits deadEnds before s after′
+pub search-unique : (input : List ℕ) (v allowed : ℕ) (verdict : Verdict) (rooms : List ℕ) (splits deadEnds : ℕ) (before after after′ : List ℕ) (r s : Reply)
+    → Searches input v allowed verdict rooms splits deadEnds before r after → Searches input v allowed verdict rooms splits deadEnds before s after′
     → (r ≡ s) × (after ≡ after′)
-search-unique input v allowed shrunk splits deadEnds before after after′ r s p q = answered-unique p q
+search-unique input v allowed verdict rooms splits deadEnds before after after′ r s p q = answered-unique p q
 
 pub search-from-unique : (input : List ℕ) (v allowed : ℕ) (rooms before after after′ : List ℕ) (r s : Reply)
     → SearchesFrom input v allowed rooms before r after → SearchesFrom input v allowed rooms before s after′ → (r ≡ s) × (after ≡ after′)

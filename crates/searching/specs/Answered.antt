@@ -8,7 +8,6 @@ use Rattle.rules.specs.Sound.{fieldsIn}
 use Rattle.steps.specs.Boxes.{Rooms}
 use Rattle.steps.specs.Shrinking.{Look, dead, alive, shrunk}
 use Rattle.steps.specs.Reply as steps
-use Rattle.boxes.specs.declared.shrink.Shrunk.{Shrunk}
 use Rattle.boxes.specs.declared.shrink.Verdict.{Verdict}
 use Rattle.boxes.specs.declared.shrink.Verdict.the-variants.{Alive, Dead}
 use Rattle.searching.specs.declared.reply.Reply.{Reply}
@@ -27,16 +26,12 @@ unfoldable pub foundBy : ℕ → Verdict → List ℕ → Look
 foundBy v (Dead place) rooms = dead place
 foundBy v Alive rooms = alive (take v rooms)
 
--- the same of what `shrink` answers
-abbrev pub foundIn : ℕ → Shrunk → Look
-foundIn v r = foundBy v (r .verdict) (r .rooms)
-
 -- it was found by shrinking a box of v rooms, none of them empty, under the rules of the file
-pub record WasShrunk (input : List ℕ) (v : ℕ) (r : Shrunk) : Type 0 where
+pub record WasShrunk (input : List ℕ) (v : ℕ) (verdict : Verdict) (rooms : List ℕ) : Type 0 where
   pub box : List ℕ
   pub full : Rooms box
   pub positions : length box ≡ v
-  pub found : foundIn v r ≡ shrunk (fieldsIn input) box
+  pub found : foundBy v verdict rooms ≡ shrunk (fieldsIn input) box
 
 -- counts that fit: no more dead ends than splits so far, no more splits than allowed, and no more allowed than 01's ceiling
 pub record Counts (allowed splits deadEnds : ℕ) : Type 0 where

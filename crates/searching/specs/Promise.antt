@@ -8,9 +8,9 @@ use Rattle.rules.specs.Sound.{fieldsIn}
 use Rattle.steps.specs.Search.{afterShrinking, searched}
 use Rattle.steps.specs.Rounds.{roundsOf}
 use Rattle.steps.specs.Reply.{ended, none, withRounds, refusal}
-use Rattle.boxes.specs.declared.shrink.Shrunk.{Shrunk}
+use Rattle.boxes.specs.declared.shrink.Verdict.{Verdict}
 use Rattle.searching.specs.declared.reply.Reply.{Reply}
-use Rattle.searching.specs.Answered.{told, Answered, foundIn}
+use Rattle.searching.specs.Answered.{told, Answered, foundBy}
 
 -- `Reply::ended`: the number and the counts, at place 0
 abbrev pub Ends : ℕ → ℕ → ℕ → Reply → Type 0
@@ -29,9 +29,9 @@ abbrev pub HasRounds : Reply → ℕ → Reply → Type 0
 HasRounds given rounds r = r ≡ record { number = given .number; place = given .place; splits = given .splits; «dead_ends» = given .«dead_ends»; rounds = rounds }
 
 -- `search`: the reply of the search of a box of v rooms, by what shrinking it under the file's rules has found, and its values in the buffer
-abbrev pub Searches : List ℕ → ℕ → ℕ → Shrunk → ℕ → ℕ → List ℕ → Reply → List ℕ → Type 0
-Searches input v allowed shrunk splits deadEnds before r after =
-    Answered (afterShrinking (fieldsIn input) (leb allowed) (foundIn v shrunk) splits deadEnds (searched (fieldsIn input) allowed)) r before after
+abbrev pub Searches : List ℕ → ℕ → ℕ → Verdict → List ℕ → ℕ → ℕ → List ℕ → Reply → List ℕ → Type 0
+Searches input v allowed verdict rooms splits deadEnds before r after =
+    Answered (afterShrinking (fieldsIn input) (leb allowed) (foundBy v verdict rooms) splits deadEnds (searched (fieldsIn input) allowed)) r before after
 
 -- `search_from`: the reply of the search that starts with the first v rooms under the file's rules, with the rounds that shrinking them takes, and its values in the buffer
 abbrev pub SearchesFrom : List ℕ → ℕ → ℕ → List ℕ → List ℕ → Reply → List ℕ → Type 0

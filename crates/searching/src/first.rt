@@ -21,7 +21,9 @@ pub fn search_from(
     requires { ⌜ SoundInput (now input) v × Rooms (take v rooms) × (allowed ≤ 1000000) × (64 ≤ length (now answer)) ⌝ }
     ensures { λ r. ⌜ SearchesFrom (now (input .entry)) v allowed rooms (now (answer .entry)) r (now (answer .exit)) ⌝ }
 {
-    let first = shrink(input, v, rooms);
-    let reply = search(input, v, allowed, first, 0, 0, answer);
-    reply.with_rounds(first.rounds)
+    let mut first = rooms;
+    let shrunk = shrink(input, v, &mut first);
+    let verdict = shrunk.verdict;
+    let reply = search(input, v, allowed, verdict, first, 0, 0, answer);
+    reply.with_rounds(shrunk.rounds)
 }

@@ -1,2 +1,3 @@
+pub mod HalfLaws
 pub mod RoomLists
 pub mod Unique

@@ -3,13 +3,11 @@ use mathlib.Core.Path.{_≡_}
 use mathlib.Core.List.{List}
 use Prim.Native.Nat.{ℕ}
 use Rattle.sets.proofs.Unique.{one-result}
-use Rattle.splitting.specs.Promise.{FirstHalf, OtherHalf, SmallestValues}
+use Rattle.splitting.specs.declared.halves.Half.{Half}
+use Rattle.splitting.specs.Promise.{KeepsHalf, WritesSmallest}
 
-pub first-half-unique : (rooms : List ℕ) (i : ℕ) {r s : List ℕ} → FirstHalf rooms i r → FirstHalf rooms i s → r ≡ s
-first-half-unique rooms i p q = one-result p q
+pub keep-half-unique : (half : Half) (before : List ℕ) (i : ℕ) {after last : List ℕ} → KeepsHalf half before i after → KeepsHalf half before i last → after ≡ last
+keep-half-unique half before i p q = one-result p q
 
-pub other-half-unique : (rooms : List ℕ) (i : ℕ) {r s : List ℕ} → OtherHalf rooms i r → OtherHalf rooms i s → r ≡ s
-other-half-unique rooms i p q = one-result p q
-
-pub smallest-values-unique : (rooms : List ℕ) (v : ℕ) {r s : List ℕ} → SmallestValues rooms v r → SmallestValues rooms v s → r ≡ s
-smallest-values-unique rooms v p q = one-result p q
+pub write-smallest-unique : (rooms : List ℕ) (v : ℕ) (before : List ℕ) {after last : List ℕ} → WritesSmallest rooms v before after → WritesSmallest rooms v before last → after ≡ last
+write-smallest-unique rooms v before p q = one-result p q

@@ -16,11 +16,11 @@ long : (c : tie.Start) → c .args .v ≤ length (c .args .rooms)
 long c = omega (arith, sound-limits (c .args .input .now) (c .args .v) (c .pre .0) .1, good-length (eInt w32) 64 (c .args .rooms) _ (c .good .1 .1 .1 .0))
 
 shrink-requires : tie.Need-shrink-requires
-shrink-requires c κs = let start = c .before .before in (start .pre .0, start .pre .1)
+shrink-requires c κs = let start = c .before .before .before in (start .pre .0, start .pre .1)
 
 search-requires : tie.Need-search-requires
 search-requires c κs =
-    let start = c .before .before .before .before in
+    let start = c .before .before .before .before .before in
     let a = start .args in
     (start .pre .0, was-shrunk (a .input .now) (a .v) (a .rooms) (long start) (start .pre .1) (c .before .shrink .ensures), record { ceiling = omega (arith, start .pre .2); within = omega arith; fewer = omega arith }, start .pre .3)
 
@@ -34,7 +34,7 @@ returns : tie.Need-returns
 returns c =
     let searched = c .before .before .before in
     let first = searched .before .before in
-    let start = first .before .before .before in
+    let start = first .before .before .before .before in
     let a = start .args in
     found-from (a .input .now) (a .v) (a .rooms) (long start) (start .pre .1) (first .shrink .ensures) (sound-fits (a .input .now) (a .v) (start .pre .0)) (a .allowed) (searched .search .ensures) (c .with-rounds .ensures)
 
