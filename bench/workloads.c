@@ -309,18 +309,19 @@ void make_random_four(struct rule_file *file, int clauses, int seed)
 
 /* ---- the longest file ---- */
 
-/* One clause of 6,552 atoms, 102 or 103 for each position, which together say "32"; or clauses of
-   three positions with 24 of 32 values, and three equalities of no positions with the empty set, which
-   are always met and make the length come out. */
-void make_longest(struct rule_file *file, int one_clause, int seed)
+/* One clause of 6,552 atoms, 102 or 103 for each position, of which one is not empty and says "32", or two
+   are, and together say "31 or 32", so that sets have to be united; or, where none is to be filled,
+   clauses of three positions with 24 of 32 values, and three equalities of no positions with the empty set,
+   which are always met and make the length come out. */
+void make_longest(struct rule_file *file, int filled, int seed)
 {
     struct random random = { (uint64_t)seed };
 
     write_header(file, 64, 32);
-    if (one_clause) {
+    if (filled) {
         write_clause(file);
         for (uint32_t k = 0; k < 6552; k++)
-            write_atom(file, 1 + k % 64, k < 64 ? value_alone(32) : 0);
+            write_atom(file, 1 + k % 64, k < 64 * (uint32_t)filled ? value_alone(32 - k / 64) : 0);
         return;
     }
     for (int k = 0; k < 3; k++)
@@ -420,6 +421,7 @@ const struct workload workloads[] = {
 
     { "32,768 bytes, 1,819 clauses", make_longest, 0, 1, LARGEST_ALLOWANCE, 1 },
     { "32,768 bytes, one clause", make_longest, 1, 0, LARGEST_ALLOWANCE, 1 },
+    { "32,768 bytes, one clause, united", make_longest, 2, 0, LARGEST_ALLOWANCE, 1 },
     { "deep, 1,953 levels", make_deep, 63, 0, LARGEST_ALLOWANCE, 1 },
 };
 

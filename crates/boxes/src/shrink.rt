@@ -96,11 +96,12 @@ pub fn shrink(input: &[u8], v: usize, rooms: &mut [u32; Room::POSITIONS]) -> Shr
     requires { ⌜ SoundInput (now input) v × Rooms (take v (now rooms)) ⌝ }
     ensures { λ r. ⌜ Shrinks (now (input .entry)) v (now (rooms .entry)) r (now (rooms .exit)) ⌝ }
 {
+    let mut next = *rooms;
     // The number of the round that is gone through.
     let mut rounds = 1;
     loop {
-        let before = *rooms;
-        let verdict = look_round(input, v, rooms);
+        let before = next;
+        let verdict = look_round(input, v, &mut next);
         if let Verdict::Dead(place) = verdict {
             *rooms = [0u32; Room::POSITIONS];
             return Shrunk {
@@ -108,7 +109,8 @@ pub fn shrink(input: &[u8], v: usize, rooms: &mut [u32; Room::POSITIONS]) -> Shr
                 rounds,
             };
         }
-        if same(rooms, &before, v) {
+        if same(&next, &before, v) {
+            *rooms = next;
             return Shrunk {
                 verdict: Verdict::Alive,
                 rounds,

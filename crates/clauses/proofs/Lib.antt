@@ -1,9 +1,9 @@
 pub mod AtomsInTurn
 pub mod FrontRooms
+pub mod MarkLaws
 pub mod PositionsInTurn
 pub mod ScanLaws
 pub mod SettledClauses
-pub mod TriedLaws
 pub mod Unique
 pub mod UnitedLaws
 pub mod UnitedScan

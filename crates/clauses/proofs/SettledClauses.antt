@@ -1,30 +1,35 @@
--- Laws of settled clauses: what one atom shows, and what the positions show, tried one after the other. Assumes nothing.
+-- Laws of settled clauses: what one atom shows, and what the atoms show one after the other, with the union of a position's sets where several meet its room. Assumes nothing.
 use mathlib.Core.Path.{_≡_, refl, sym, ap, ap₂, _∙_, subst}
-use mathlib.Core.Logic.{⊎-elim}
-use mathlib.Core.Bool.{Bool, true, false, _||_}
-use mathlib.Core.List.{List, [], _∷_, List·Memᴰ, List·Memᴰ·eq-of-singleton}
+use mathlib.Core.Logic.{inl, inr, ⊎-elim}
+use mathlib.Core.Bool.{Bool, true, false}
+use mathlib.Core.List.{List, [], _∷_, _++_, append-nil, append-assoc, List·Memᴰ, List·Memᴰ·eq-of-singleton}
 use Prim.Native.Nat.{ℕ, _+_, _-_, _/_, _≤_, _<_}
+use native.Mathlib.Decide.{ℕ-discrete}
 use native.Mathlib.Omega.{arith}
-use lib.Dec.{T}
+use lib.Dec.{T, not-T}
 use lib.ListN.{getD, take, drop}
-use Rattle.sets.specs.Sets.{member, inside}
+use borrow.Author.Tests.{not-true}
+use Rattle.sets.specs.Sets.{member, union, common, inside}
+use Rattle.sets.proofs.Members.{member-empty, member-union, member-common}
+use Rattle.sets.proofs.Sameness.{inside-iff, common-of-inside}
+use Rattle.sets.proofs.Unions.{union-empty, common-empty, common-union}
+use Rattle.lists.specs.Lists.{Every}
+use Rattle.lists.proofs.ListLaws.{some-of-listed, listed-of-some, every-over-append, every-with-some}
 use Rattle.lists.proofs.TestLaws.{test-true, true-test}
-use Rattle.sets.proofs.Sameness.{inside-iff}
 use Rattle.rules.specs.declared.field.Atom.{Atom}
+use Rattle.rules.specs.Contents.{Atoms}
 use Rattle.rules.specs.Reading.{atomOf, atomsOf}
-use Rattle.lists.proofs.ListLaws.{some-of-listed, listed-of-some}
 use Rattle.steps.specs.Boxes.{roomAt}
 use Rattle.steps.specs.Shrinking.{united, settledBy, settledClause}
 use Rattle.steps.proofs.Looks.ClauseLaws.{ShowsSettled, settled-some}
 use Rattle.steps.proofs.Looks.LiveLaws.{member-united}
-use Rattle.rules.specs.Contents.{Atoms}
+use Rattle.clauses.specs.Marks.{isMarked, withMark}
 use Rattle.clauses.specs.Promise.{UnitesAt}
-use Rattle.clauses.specs.Scans.{atomsFrom, AtomsFrom}
-use Rattle.clauses.specs.Tried.{isTried, withTried}
-use Rattle.clauses.proofs.UnitedLaws.{united-one}
+use Rattle.clauses.specs.Scans.{atomsFrom, AtomsFrom, sharedIn}
 use Rattle.clauses.proofs.AtomsInTurn.{atoms-all, atoms-start, atoms-end, atoms-next, atom-fits, atom-listed, atoms-on-from}
 use Rattle.clauses.proofs.FrontRooms.{room-there}
-use Rattle.clauses.proofs.TriedLaws.{none-tried, tried-more}
+use Rattle.clauses.proofs.MarkLaws.{none-marked, marked-was, marked-now}
+use Rattle.clauses.proofs.UnitedLaws.{united-one, united-elsewhere, united-append}
 
 -- ---- the atoms of a clause
 
@@ -53,69 +58,179 @@ set-settles {v} {len} {i} {content} rooms from there {a} here test e =
     shows-settled (take v rooms) (atomsOf (len / 5) content) a (a ∷ []) (λ c t. subst (λ (d : Atom). List·Memᴰ d (atomsOf (len / 5) content)) (sym (List·Memᴰ·eq-of-singleton t)) listed) listed
     (true-test _ (ap₂ inside (room-there v (a .position) rooms (fits .0) (fits .1)) (united-one a (a .position) refl) ∙ sym test ∙ e))
 
--- ---- the positions of a clause, tried one after the other
+-- ---- the atoms of a clause, one after the other
 
--- The atoms from i on are left to tell whether the clause is settled: none of the positions tried has its room inside the union of its sets.
-pub record Trying (v len i tried : ℕ) (rooms content : List ℕ) : Type 0 where
+-- what the room of an atom's position shares with a union that its set is part of: where it meets only one part, it lies inside that part
+inside-left : (r a b : ℕ) → common r b ≡ 0 → T (inside r (union a b)) → T (inside r a)
+inside-left r a b none t = inside-iff r a .1 λ x u.
+    ⊎-elim (λ (h : member x a). h) (λ (h : member x b). absurd (member-empty x (subst (member x) none (member-common x r b .1 (u, h))))) (member-union x a b .0 (inside-iff r (union a b) .0 t x u))
+
+inside-right : (r a b : ℕ) → common r a ≡ 0 → T (inside r (union a b)) → T (inside r b)
+inside-right r a b none t = inside-iff r b .1 λ x u.
+    ⊎-elim (λ (h : member x a). absurd (member-empty x (subst (member x) none (member-common x r a .1 (u, h))))) (λ (h : member x b). h) (member-union x a b .0 (inside-iff r (union a b) .0 t x u))
+
+inside-union : (r a b : ℕ) → T (inside r a) → T (inside r (union a b))
+inside-union r a b t = inside-iff r (union a b) .1 λ x u. member-union x a b .1 (inl (inside-iff r a .0 t x u))
+
+-- the empty set lies inside every set
+empty-inside : (m : ℕ) → T (inside 0 m)
+empty-inside m = inside-iff 0 m .1 λ x u. absurd (member-empty x u)
+
+-- The atoms from i on are left, and those passed do not show the clause settled: no room of theirs is empty, and only an empty room lies inside its union. A position that has no mark has its room unmet by them; one that was tried has its room not inside the union of all its sets.
+pub record Trying (v len i met tried : ℕ) (rooms content : List ℕ) : Type 0 where
   pub from : AtomsFrom v len i content
-  pub whole : settledClause (take v rooms) (atomsOf (len / 5) content) ≡ settledBy (atomsFrom len i content) (atomsOf (len / 5) content) (take v rooms)
-  pub outside : (q : ℕ) → T (isTried q tried) → inside (roomAt (take v rooms) (q + 1)) (united (q + 1) (atomsOf (len / 5) content)) ≡ false
+  pub passed : List Atom
+  pub parts : atomsOf (len / 5) content ≡ passed ++ atomsFrom len i content
+  pub filled : Every (λ a. roomAt (take v rooms) (a .position) ≡ 0 → ⊥) passed
+  pub apart : (q : ℕ) → ShowsSettled passed (take v rooms) q → roomAt (take v rooms) q ≡ 0
+  pub unmet : (k : ℕ) → (T (isMarked k met) → ⊥) → sharedIn (take v rooms) passed (k + 1) ≡ 0
+  pub outside : (k : ℕ) → T (isMarked k tried) → ShowsSettled (atomsOf (len / 5) content) (take v rooms) (k + 1) → ⊥
 
--- at the start all are left, and none is tried
-pub trying-starts : {v len : ℕ} {content : List ℕ} → Atoms v len content → (rooms : List ℕ) → Trying v len 0 0 rooms content
-unfolding settledClause
+-- at the start all are left, and there is no mark
+pub trying-starts : {v len : ℕ} {content : List ℕ} → Atoms v len content → (rooms : List ℕ) → Trying v len 0 0 0 rooms content
+unfolding united
 trying-starts {v} {len} {content} atoms rooms = record {
   from = atoms-start atoms;
-  whole = ap (λ (bs : List Atom). settledBy bs (atomsOf (len / 5) content) (take v rooms)) (sym (atoms-all len content));
-  outside = λ q t. absurd (none-tried q t);
+  passed = [];
+  parts = sym (atoms-all len content);
+  filled = tt;
+  apart = λ q t. sym (common-of-inside (roomAt (take v rooms) q) 0 t) ∙ common-empty (roomAt (take v rooms) q);
+  unmet = λ k ne. common-empty (roomAt (take v rooms) (k + 1));
+  outside = λ k t. absurd (none-marked k t);
 }
 
-module _ {v len i tried : ℕ} {rooms content : List ℕ} (trying : Trying v len i tried rooms content) where
+module _ {v len i met tried : ℕ} {rooms content : List ℕ} (trying : Trying v len i met tried rooms content) where
   abbrev box : List ℕ
   box = take v rooms
 
   abbrev all : List Atom
   all = atomsOf (len / 5) content
 
+  abbrev passed : List Atom
+  passed = trying .passed
+
   -- where none is left the clause is not settled
   pub trying-ends : len ≤ i → settledClause box all ≡ false
-  unfolding settledBy
-  trying-ends past = trying .whole ∙ ap (λ (bs : List Atom). settledBy bs all box) (atoms-end len i content past)
+  unfolding settledClause
+  trying-ends past =
+      let whole : all ≡ passed = trying .parts ∙ ap (λ (bs : List Atom). passed ++ bs) (atoms-end len i content past) ∙ append-nil passed in
+      ap (λ (bs : List Atom). settledBy bs bs box) whole
+      ∙ not-true (settledBy passed passed box) (test-true _ (not-T (settledBy passed passed box) λ t.
+      let shown = every-with-some (λ a. roomAt box (a .position) ≡ 0 → ⊥) (λ c. ShowsSettled passed box (c .position)) passed (trying .filled) (settled-some passed passed box .0 t) in
+      shown .2 (trying .apart (shown .0 .position) (shown .3))))
 
   module _ (there : i < len) {a : Atom} (here : a ≡ atomOf (drop i content)) where
+    abbrev p : ℕ
+    p = a .position
+
+    abbrev later : List Atom
+    later = passed ++ a ∷ []
+
     -- the next atom's position is one from 1 to v
-    pub trying-fits : (1 ≤ a .position) × (a .position ≤ v)
+    pub trying-fits : (1 ≤ p) × (p ≤ v)
     trying-fits = atom-fits (trying .from) there here
 
-    -- the clause is settled where its room lies inside the union of its sets, or by the atoms behind it
-    next : settledClause box all ≡ inside (roomAt box (a .position)) (united (a .position) all) || settledBy (atomsFrom len (i + 5) content) all box
-    unfolding settledBy
-    next = trying .whole ∙ ap (λ (bs : List Atom). settledBy bs all box) (atoms-next (trying .from) there here)
+    -- the test of its room against its own set
+    pub trying-outer : {b : Bool} → b ≡ inside (getD rooms (p - 1) 0) (a .set) → b ≡ false → inside (roomAt box p) (a .set) ≡ false
+    trying-outer test e = ap (λ (room : ℕ). inside room (a .set)) (room-there v p rooms (trying-fits .0) (trying-fits .1)) ∙ sym test ∙ e
 
-    -- where it does not, they are left, whatever positions are tried then
-    passed : inside (roomAt box (a .position)) (united (a .position) all) ≡ false → {tried′ : ℕ}
-        → ((q : ℕ) → T (isTried q tried′) → inside (roomAt box (q + 1)) (united (q + 1) all) ≡ false) → Trying v len (i + 5) tried′ rooms content
-    passed e out = record { from = atoms-on-from (trying .from) there here; whole = next ∙ ap (λ (b : Bool). b || settledBy (atomsFrom len (i + 5) content) all box) e; outside = out }
-
-    up : a .position - 1 + 1 ≡ a .position
+    up : p - 1 + 1 ≡ p
     up = omega (arith, trying-fits)
 
-    -- a position that was tried is passed over
-    pub trying-passes : T (isTried (a .position - 1) tried) → {tried′ : ℕ} → tried′ ≡ tried → Trying v len (i + 5) tried′ rooms content
-    trying-passes t is =
-        passed (ap (λ (p : ℕ). inside (roomAt box p) (united p all)) (sym up) ∙ trying .outside (a .position - 1) t) λ q u. trying .outside q (subst (λ (m : ℕ). T (isTried q m)) is u)
+    parts-next : all ≡ later ++ atomsFrom len (i + 5) content
+    parts-next = trying .parts ∙ ap (λ (bs : List Atom). passed ++ bs) (atoms-next (trying .from) there here) ∙ sym (append-assoc passed (a ∷ []) (atomsFrom len (i + 5) content))
 
-    module _ {sets : ℕ} (unites : UnitesAt content len (a .position) sets) {b : Bool} (test : b ≡ inside (getD rooms (a .position - 1) 0) sets) where
-      test-here : inside (roomAt box (a .position)) (united (a .position) all) ≡ b
-      test-here = ap₂ inside (room-there v (a .position) rooms (trying-fits .0) (trying-fits .1)) (sym unites) ∙ sym test
+    united-later : united p later ≡ union (united p passed) (a .set)
+    united-later = united-append p passed (a ∷ []) ∙ ap (union (united p passed)) (united-one a p refl)
 
-      -- its room lies inside: the clause is settled
-      pub trying-settles : b ≡ true → settledClause box all ≡ true
-      trying-settles e = next ∙ ap (λ (c : Bool). c || settledBy (atomsFrom len (i + 5) content) all box) (test-here ∙ e)
+    -- it adds nothing to the union of another position
+    other-later : (q : ℕ) → (p ≡ q → ⊥) → united q later ≡ united q passed
+    unfolding united
+    other-later q ne = united-append q passed (a ∷ []) ∙ ap (union (united q passed)) (united-elsewhere a [] q ne) ∙ union-empty (united q passed)
 
-      -- else it is tried, and passed
-      pub trying-on : b ≡ false → {tried′ : ℕ} → tried′ ≡ withTried (a .position - 1) tried → Trying v len (i + 5) tried′ rooms content
-      trying-on e {tried′} is = passed (test-here ∙ e) λ q t. ⊎-elim (now q) (trying .outside q) (tried-more q (a .position - 1) tried (subst (λ (m : ℕ). T (isTried q m)) is t))
+    module _ (outer : inside (roomAt box p) (a .set) ≡ false) where
+      -- its room is not empty
+      not-empty : roomAt box p ≡ 0 → ⊥
+      not-empty e = subst T outer (subst (λ (room : ℕ). T (inside room (a .set))) (sym e) (empty-inside (a .set)))
+
+      -- it is passed, where its room does not lie inside the union so far, whatever is marked then
+      goes : (ShowsSettled later box p → ⊥) → {met′ tried′ : ℕ} → ((k : ℕ) → (T (isMarked k met′) → ⊥) → sharedIn box later (k + 1) ≡ 0)
+          → ((k : ℕ) → T (isMarked k tried′) → ShowsSettled all box (k + 1) → ⊥) → Trying v len (i + 5) met′ tried′ rooms content
+      goes unheld bare out = record {
+        from = atoms-on-from (trying .from) there here;
+        passed = later;
+        parts = parts-next;
+        filled = every-over-append (λ b. roomAt box (b .position) ≡ 0 → ⊥) passed (a ∷ []) .1 (trying .filled, (not-empty, tt));
+        apart = λ q t. by q (ℕ-discrete p q) t;
+        unmet = bare;
+        outside = out;
+      }
         where
-          now : (q : ℕ) → q ≡ a .position - 1 → inside (roomAt box (q + 1)) (united (q + 1) all) ≡ false
-          now q same = ap (λ (p : ℕ). inside (roomAt box p) (united p all)) (ap (λ (k : ℕ). k + 1) same ∙ up) ∙ test-here ∙ e
+          by : (q : ℕ) → Dec (p ≡ q) → ShowsSettled later box q → roomAt box q ≡ 0
+          by q (yes e) t = absurd (unheld (subst (ShowsSettled later box) (sym e) t))
+          by q (no ne) t = trying .apart q (subst (λ (m : ℕ). T (inside (roomAt box q) m)) (other-later q ne) t)
+
+      -- another position's room is met as before
+      unmet-other : (k : ℕ) → (k ≡ p - 1 → ⊥) → (T (isMarked k met) → ⊥) → sharedIn box later (k + 1) ≡ 0
+      unmet-other k ne bare = ap (common (roomAt box (k + 1))) (other-later (k + 1) (λ e. ne (omega arith))) ∙ trying .unmet k bare
+
+      -- an atom that does not meet its room
+      pub trying-passes : common (roomAt box p) (a .set) ≡ 0 → Trying v len (i + 5) met tried rooms content
+      trying-passes none = goes unheld bare (trying .outside)
+        where
+          unheld : ShowsSettled later box p → ⊥
+          unheld t = not-empty (trying .apart p (inside-left (roomAt box p) (united p passed) (a .set) none (subst (λ (m : ℕ). T (inside (roomAt box p) m)) united-later t)))
+
+          bare : (k : ℕ) → (T (isMarked k met) → ⊥) → sharedIn box later (k + 1) ≡ 0
+          bare k ne = by (ℕ-discrete k (p - 1))
+            where
+              by : Dec (k ≡ p - 1) → sharedIn box later (k + 1) ≡ 0
+              by (yes e) =
+                  let same : k + 1 ≡ p = ap (λ (j : ℕ). j + 1) e ∙ up in
+                  ap (sharedIn box later) same ∙ ap (common (roomAt box p)) united-later ∙ common-union (roomAt box p) (united p passed) (a .set)
+                  ∙ ap₂ union (ap (sharedIn box passed) (sym same) ∙ trying .unmet k ne) none ∙ union-empty 0
+              by (no off) = unmet-other k off ne
+
+      -- the first that meets it leaves a mark
+      pub trying-meets : (T (isMarked (p - 1) met) → ⊥) → {met′ : ℕ} → met′ ≡ withMark (p - 1) met → Trying v len (i + 5) met′ tried rooms content
+      trying-meets first {met′} is = goes unheld bare (trying .outside)
+        where
+          unheld : ShowsSettled later box p → ⊥
+          unheld t =
+              let none : sharedIn box passed p ≡ 0 = ap (sharedIn box passed) (sym up) ∙ trying .unmet (p - 1) first in
+              subst T outer (inside-right (roomAt box p) (united p passed) (a .set) none (subst (λ (m : ℕ). T (inside (roomAt box p) m)) united-later t))
+
+          bare : (k : ℕ) → (T (isMarked k met′) → ⊥) → sharedIn box later (k + 1) ≡ 0
+          bare k ne =
+              let no-mark : T (isMarked k (withMark (p - 1) met)) → ⊥ = λ t. ne (subst (λ (m : ℕ). T (isMarked k m)) (sym is) t) in
+              unmet-other k (λ e. no-mark (marked-now k (p - 1) met (inl e))) (λ t. no-mark (marked-now k (p - 1) met (inr t)))
+
+      -- where the union of all its sets does not hold its room, neither does that of some
+      closed : (ShowsSettled all box p → ⊥) → ShowsSettled later box p → ⊥
+      closed out t =
+          out (subst (λ (bs : List Atom). ShowsSettled bs box p) (sym parts-next)
+          (subst (λ (m : ℕ). T (inside (roomAt box p) m)) (sym (united-append p later (atomsFrom len (i + 5) content))) (inside-union (roomAt box p) (united p later) (united p (atomsFrom len (i + 5) content)) t)))
+
+      bare-marked : T (isMarked (p - 1) met) → (k : ℕ) → (T (isMarked k met) → ⊥) → sharedIn box later (k + 1) ≡ 0
+      bare-marked t k ne = unmet-other k (λ e. ne (subst (λ (j : ℕ). T (isMarked j met)) (sym e) t)) ne
+
+      module _ (again : T (isMarked (p - 1) met)) where
+        -- a later one of a position that was tried
+        pub trying-knows : T (isMarked (p - 1) tried) → Trying v len (i + 5) met tried rooms content
+        trying-knows t = goes (closed λ s. trying .outside (p - 1) t (subst (ShowsSettled all box) (sym up) s)) (bare-marked again) (trying .outside)
+
+        module _ {sets : ℕ} (unites : UnitesAt content len p sets) {b : Bool} (test : b ≡ inside (getD rooms (p - 1) 0) sets) where
+          test-here : inside (roomAt box p) (united p all) ≡ b
+          test-here = ap₂ inside (room-there v p rooms (trying-fits .0) (trying-fits .1)) (sym unites) ∙ sym test
+
+          -- the union of its sets holds its room: the clause is settled
+          pub trying-settles : b ≡ true → settledClause box all ≡ true
+          trying-settles e = shows-settled box all a all (λ c t. t) (atom-listed (trying .from) there here) (true-test _ (test-here ∙ e))
+
+          -- else it is tried
+          pub trying-tries : b ≡ false → {tried′ : ℕ} → tried′ ≡ withMark (p - 1) tried → Trying v len (i + 5) met tried′ rooms content
+          trying-tries e is = goes (closed out) (bare-marked again) λ k t s.
+              ⊎-elim (λ same. out (subst (ShowsSettled all box) (ap (λ (j : ℕ). j + 1) same ∙ up) s)) (λ u. trying .outside k u s) (marked-was k (p - 1) tried (subst (λ (m : ℕ). T (isMarked k m)) is t))
+            where
+              out : ShowsSettled all box p → ⊥
+              out s = subst T (test-here ∙ e) s

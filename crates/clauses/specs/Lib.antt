@@ -1,4 +1,4 @@
 pub mod Looks
+pub mod Marks
 pub mod Scans
-pub mod Tried
 pub mod Promise

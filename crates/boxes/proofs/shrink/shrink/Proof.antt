@@ -11,17 +11,17 @@ use Rattle.boxes.proofs.shrink.shrink.Statement.{statement}
 use Rattle.boxes.proofs.shrink.shrink.Tie as tie
 
 abbrev Inv-loop : tie.InvT-loop
-Inv-loop input v rooms₀ rounds₀ rooms rounds = Cutting input v rooms₀ rooms rounds
+Inv-loop input v rooms₀ next₀ rounds₀ rooms next rounds = Cutting input v rooms₀ next rounds
 
 abbrev μ-loop : tie.MeasureT-loop
-μ-loop input v rooms₀ rounds₀ rooms rounds = openValues (take v rooms)
+μ-loop input v rooms₀ next₀ rounds₀ rooms next rounds = openValues (take v next)
 
 -- the loop, from what a round has left, and the start
 abbrev turn : tie.After-look-round Inv-loop μ-loop → tie.At-loop Inv-loop μ-loop
-turn c = c .before .before .before
+turn c = c .before .before
 
 abbrev start : tie.At-loop Inv-loop μ-loop → tie.Start Inv-loop μ-loop
-start c = c .before .before
+start c = c .before .before .before
 
 -- what the round has left, from a box that lives
 abbrev living : tie.After-same Inv-loop μ-loop → tie.After-enum-told Inv-loop μ-loop
@@ -35,10 +35,10 @@ positions : (c : tie.Start Inv-loop μ-loop) → c .args .v ≤ 64
 positions c = sound-limits (c .args .input .now) (c .args .v) (c .pre .0) .1
 
 loop-holds : tie.Need-loop-holds Inv-loop μ-loop
-loop-holds c = let s = c .before in cutting-start (s .args .input .now) (s .args .v) (s .args .rooms .now) (s .pre .1)
+loop-holds c = let s = c .before .before in cutting-start (s .args .input .now) (s .args .v) (s .args .rooms .now) (s .pre .1)
 
 look-round-requires : tie.Need-look-round-requires Inv-loop μ-loop
-look-round-requires c κs = start (c .before .before) .pre .0
+look-round-requires c κs = start (c .before) .pre .0
 
 enum-known-verdict : tie.Need-enum-known-verdict Inv-loop μ-loop
 enum-known-verdict c = search needs

@@ -181,7 +181,7 @@ search-choose-requires t c κs = begin (c .before) .pre .1 .0
 search-write-smallest-requires : (t : ℕ) → search-lts.Need-write-smallest-requires (claims t) (search-at t) search′.Post
 search-write-smallest-requires t c κs =
     let s = begin (living (c .before .before .before)) in
-    (positions s, omega (arith, positions s, s .pre .1 .3))
+    (omega (arith, positions s), omega (arith, positions s, s .pre .1 .3))
 
 search-ended-requires : (t : ℕ) → search-lts.Need-ended-requires (claims t) (search-at t) search′.Post
 search-ended-requires t c κs = tt
