@@ -1,7 +1,7 @@
 -- Laws of the atoms of a clause, taken one after the other from the front of its content. Assumes nothing.
 use mathlib.Core.Path.{_≡_, refl, sym, ap, ap₂, _∙_, subst}
 use mathlib.Core.List.{List, [], _∷_, List·Memᴰ, List·Memᴰ·head, List·Memᴰ·tail}
-use Prim.Native.Nat.{ℕ, zero, suc, _+_, _-_, _*_, _/_, _≤_, _<_}
+use Prim.Native.Nat.{ℕ, _+_, _-_, _/_, _≤_, _<_}
 use native.Mathlib.Omega.{arith}
 use lib.ListN.{drop}
 use Rattle.rules.specs.declared.field.Atom.{Atom}
@@ -59,12 +59,3 @@ module _ {v len i : ℕ} {content : List ℕ} (from : AtomsFrom v len i content)
     -- then those behind it are to come
     pub atoms-on-from : AtomsFrom v len (i + 5) content
     atoms-on-from = record { whole = omega (arith, from .whole, atom-there); fit = fit-next .1; among = λ b t. among-next b (List·Memᴰ·tail t) }
-
--- from the atom with any index on they are to come
-pub atoms-at : {v len : ℕ} {content : List ℕ} → Atoms v len content → (k : ℕ) → k ≤ len / 5 → AtomsFrom v len (k * 5) content
-atoms-at atoms zero h = atoms-start atoms
-atoms-at {v} {len} {content} atoms (suc k) h =
-    let from = atoms-at atoms k (omega arith) in
-    let more : k * 5 < len = omega (arith, atoms .whole) in
-    let next : k * 5 + 5 ≡ suc k * 5 = omega arith in
-    subst (λ (i : ℕ). AtomsFrom v len i content) next (atoms-on-from from more refl)

@@ -1,6 +1,6 @@
 -- Laws of the scan that works out the union of a position's sets: what is united so far, with what is left, is the whole. Assumes nothing.
-use mathlib.Core.Path.{_≡_, refl, sym, ap, _∙_}
-use mathlib.Core.List.{List, [], _∷_}
+use mathlib.Core.Path.{_≡_, sym, ap, _∙_}
+use mathlib.Core.List.{List, _∷_}
 use Prim.Native.Nat.{ℕ, _+_, _/_, _≤_, _<_}
 use lib.ListN.{drop}
 use Rattle.sets.specs.Sets.{union}

@@ -1,11 +1,10 @@
--- Laws of what is written to the front of a buffer: one element more, `over-store`, and one more of a list that is copied, `over-next`. Assumes nothing.
+-- Laws of what is written to the front of a buffer: one element more, `over-store`, and what stands behind, `over-behind`. Assumes nothing.
 use mathlib.Core.Path.{_≡_, sym, ap, subst, _∙_}
 use mathlib.Core.List.{List, [], _∷_, _++_}
 use Prim.Native.Nat.{ℕ, suc, _+_, _-_, _≤_, _<_}
-use native.Mathlib.Numerals.{add-one}
 use native.Mathlib.Omega.{arith}
-use lib.ListN.{length, getD, set, take, drop, length-append}
-use lib.Seq.{getD-append-add, getD-drop, length-take-le, take-suc, drop-cons, set-append-seam, append-snoc}
+use lib.ListN.{length, getD, set, drop, length-append}
+use lib.Seq.{getD-append-add, getD-drop, drop-cons, set-append-seam, append-snoc}
 use Rattle.lists.specs.Buffer.{over}
 
 module _ {A : Type 0} (xs buffer : List A) where
@@ -17,15 +16,6 @@ module _ {A : Type 0} (xs buffer : List A) where
       ∙ set-append-seam xs _ _ x
       ∙ sym (append-snoc xs x _)
       ∙ ap (λ (k : ℕ). (xs ++ (x ∷ [])) ++ drop k buffer) longer
-
--- one element more of a list that is copied to the front
-pub over-next : {A : Type 0} (xs buffer : List A) (i : ℕ) (d : A) → i < length xs → i < length buffer
-    → set (over (take i xs) buffer) i (getD xs i d) ≡ over (take (i + 1) xs) buffer
-over-next {A = A} xs buffer i d lt fits =
-    let here : length (take i xs) ≡ i = length-take-le i xs (omega arith) in
-    ap (λ (k : ℕ). set (over (take i xs) buffer) k (getD xs i d)) (sym here)
-    ∙ over-store (take i xs) buffer (getD xs i d) (omega arith)
-    ∙ ap (λ (front : List A). over front buffer) (sym (take-suc xs i d lt) ∙ ap (λ (k : ℕ). take k xs) (sym (add-one i)))
 
 -- behind the elements that were written in front, a buffer is as it was
 pub over-behind : {A : Type 0} (xs buffer : List A) (i : ℕ) (d : A) → length xs ≤ i → getD (over xs buffer) i d ≡ getD buffer i d

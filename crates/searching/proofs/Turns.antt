@@ -2,17 +2,14 @@
 use mathlib.Core.Path.{_≡_, refl, sym, ap, _∙_, subst}
 use mathlib.Core.Logic.{_↔_}
 use mathlib.Core.Bool.{Bool, true, false}
-use mathlib.Core.List.{List, _++_}
-use Prim.Native.Nat.{ℕ, _+_, _-_, _^_, _≤_, _<_}
+use mathlib.Core.List.{List}
+use Prim.Native.Nat.{ℕ, _+_, _≤_, _<_}
 use native.Mathlib.Omega.{arith}
 use lib.Dec.{leb}
-use lib.ListN.{length, getD, set, take, replicate, length-map, length-take}
-use lib.Seq.{take-at, take-set-lt, getD-take}
+use lib.ListN.{length, getD, set, take, length-take}
+use lib.Seq.{take-set-lt, getD-take}
 use borrow.Author.Tests.{le-leb, lt-leb}
 use Rattle.sets.specs.Sets.{single, count, smallest, others}
-use Rattle.sets.proofs.Smallest.{smallest-range}
-use Rattle.lists.specs.Lists.{Every}
-use Rattle.lists.proofs.ListLaws.{every-map, every-over-map}
 use Rattle.rules.specs.Rules.{Field}
 use Rattle.rules.specs.Sound.{fieldsIn}
 use Rattle.steps.specs.Boxes.{openValues, BoxInside, Rooms, smallestOf, firstHalf, otherHalf}

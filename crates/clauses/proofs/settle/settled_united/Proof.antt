@@ -1,6 +1,6 @@
 -- `clauses::settle::settled_united` meets its contract. The loop: the atoms before `i` do not show the clause settled; the measure is what is left of their bytes. Assumes nothing.
 use mathlib.Core.Path.{_≡_, sym, _∙_, subst}
-use mathlib.Core.Bool.{Bool, false}
+use mathlib.Core.Bool.{false}
 use Prim.Native.Nat.{_-_, _≤_, _<_}
 use native.Mathlib.Omega.{arith}
 use lib.Dec.{T}

@@ -1,5 +1,5 @@
 -- `deep::stack::allowed` meets its contract, which says nothing of the result; a number that is not below 0 can be cast. Assumes nothing.
-use mathlib.Core.Path.{_≡_, sym, subst}
+use mathlib.Core.Path.{sym, subst}
 use mathlib.Core.Bool.{Bool, not}
 use native.Mathlib.Omega.{arith}
 use borrow.Author.Needs.{needs}

@@ -16,7 +16,7 @@ use Rattle.boxes.proofs.shrink.shrink.Reads as shrink-reads
 use Rattle.splitting.specs.Promise.{halfOf}
 use Rattle.searching.specs.Answered.{foundBy}
 use Rattle.searching.proofs.ShrunkBoxes.{openFound}
-use Rattle.searching.proofs.Turns.{Given, Saved, saved-of, ends-dead, ends-settled, Split, ends-undecided, First, Other, first-of, other-of, half-rooms, Next, half-next, half-searched}
+use Rattle.searching.proofs.Turns.{Given, Saved, saved-of, ends-dead, ends-settled, Split, ends-undecided, First, Other, first-of, other-of, half-rooms, half-next, half-searched}
 use Rattle.searching.proofs.Turns.{Begun, ends-first, none-kept, ends-second, first-counted}
 use Rattle.searching.proofs.reply.Reply.none.Reads as none-reads
 use Rattle.searching.proofs.reply.Reply.ended.Reads as ended-reads
