@@ -10,9 +10,8 @@ use lib.Dec.{T, not-T}
 use lib.ListN.{getD, take, drop}
 use borrow.Author.Tests.{not-true}
 use Rattle.sets.specs.Sets.{member, union, common, inside}
-use Rattle.sets.proofs.Members.{member-empty, member-union, member-common}
 use Rattle.sets.proofs.Sameness.{inside-iff, common-of-inside}
-use Rattle.sets.proofs.Unions.{union-empty, common-empty, common-union}
+use Rattle.sets.proofs.Unions.{union-empty, common-empty, empty-inside, common-union, inside-union, inside-first, inside-second}
 use Rattle.lists.specs.Lists.{Every}
 use Rattle.lists.proofs.ListLaws.{some-of-listed, listed-of-some, every-over-append, every-with-some}
 use Rattle.lists.proofs.TestLaws.{test-true, true-test}
@@ -60,23 +59,7 @@ set-settles {v} {len} {i} {content} rooms from there {a} here test e =
 
 -- ---- the atoms of a clause, one after the other
 
--- what the room of an atom's position shares with a union that its set is part of: where it meets only one part, it lies inside that part
-inside-left : (r a b : ℕ) → common r b ≡ 0 → T (inside r (union a b)) → T (inside r a)
-inside-left r a b none t = inside-iff r a .1 λ x u.
-    ⊎-elim (λ (h : member x a). h) (λ (h : member x b). absurd (member-empty x (subst (member x) none (member-common x r b .1 (u, h))))) (member-union x a b .0 (inside-iff r (union a b) .0 t x u))
-
-inside-right : (r a b : ℕ) → common r a ≡ 0 → T (inside r (union a b)) → T (inside r b)
-inside-right r a b none t = inside-iff r b .1 λ x u.
-    ⊎-elim (λ (h : member x a). absurd (member-empty x (subst (member x) none (member-common x r a .1 (u, h))))) (λ (h : member x b). h) (member-union x a b .0 (inside-iff r (union a b) .0 t x u))
-
-inside-union : (r a b : ℕ) → T (inside r a) → T (inside r (union a b))
-inside-union r a b t = inside-iff r (union a b) .1 λ x u. member-union x a b .1 (inl (inside-iff r a .0 t x u))
-
--- the empty set lies inside every set
-empty-inside : (m : ℕ) → T (inside 0 m)
-empty-inside m = inside-iff 0 m .1 λ x u. absurd (member-empty x u)
-
--- The atoms from i on are left, and those passed do not show the clause settled: no room of theirs is empty, and only an empty room lies inside its union. A position that has no mark has its room unmet by them; one that was tried has its room not inside the union of all its sets.
+-- The atoms from i on are left, and those passed do not show the clause settled: no room of theirs is empty, and only an empty room lies inside its union. Where a position is not marked as met, none of them meets its room; where it is marked as tried, its room does not lie inside the union of all its sets.
 pub record Trying (v len i met tried : ℕ) (rooms content : List ℕ) : Type 0 where
   pub from : AtomsFrom v len i content
   pub passed : List Atom
@@ -179,7 +162,7 @@ module _ {v len i met tried : ℕ} {rooms content : List ℕ} (trying : Trying v
       trying-passes none = goes unheld bare (trying .outside)
         where
           unheld : ShowsSettled later box p → ⊥
-          unheld t = not-empty (trying .apart p (inside-left (roomAt box p) (united p passed) (a .set) none (subst (λ (m : ℕ). T (inside (roomAt box p) m)) united-later t)))
+          unheld t = not-empty (trying .apart p (inside-first (roomAt box p) (united p passed) (a .set) none (subst (λ (m : ℕ). T (inside (roomAt box p) m)) united-later t)))
 
           bare : (k : ℕ) → (T (isMarked k met) → ⊥) → sharedIn box later (k + 1) ≡ 0
           bare k ne = by (ℕ-discrete k (p - 1))
@@ -198,7 +181,7 @@ module _ {v len i met tried : ℕ} {rooms content : List ℕ} (trying : Trying v
           unheld : ShowsSettled later box p → ⊥
           unheld t =
               let none : sharedIn box passed p ≡ 0 = ap (sharedIn box passed) (sym up) ∙ trying .unmet (p - 1) first in
-              subst T outer (inside-right (roomAt box p) (united p passed) (a .set) none (subst (λ (m : ℕ). T (inside (roomAt box p) m)) united-later t))
+              subst T outer (inside-second (roomAt box p) (united p passed) (a .set) none (subst (λ (m : ℕ). T (inside (roomAt box p) m)) united-later t))
 
           bare : (k : ℕ) → (T (isMarked k met′) → ⊥) → sharedIn box later (k + 1) ≡ 0
           bare k ne =

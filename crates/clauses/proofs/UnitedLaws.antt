@@ -1,6 +1,6 @@
--- Laws of the union of a position's sets in a clause: by an atom more, and of two lists of atoms; and of a union of three sets. Assumes nothing.
+-- Laws of the union of a position's sets in a clause: by an atom more, and of two lists of atoms. Assumes nothing.
 use mathlib.Core.Path.{_≡_, _∙_}
-use mathlib.Core.Logic.{inl, inr, ⊎-elim, ⊎-map}
+use mathlib.Core.Logic.{⊎-map}
 use mathlib.Core.List.{List, [], _∷_, _++_}
 use Prim.Native.Nat.{ℕ}
 use borrow.Author.Tests.{eq-eqb, ne-eqb}
@@ -38,10 +38,3 @@ united-append q xs ys = member-extensional (united q (xs ++ ys)) (union (united 
   where
     Has : ℕ → Atom → Type 0
     Has x a = (a .position ≡ q) × member x (a .set)
-
--- a union of sets may be united onto a set one after the other
-pub union-onto : (a b c : ℕ) → union a (union b c) ≡ union (union a b) c
-union-onto a b c = member-extensional (union a (union b c)) (union (union a b) c) λ x. (
-  λ t. member-union x (union a b) c .1 (⊎-elim (λ u. inl (member-union x a b .1 (inl u))) (λ u. ⊎-map (λ w. member-union x a b .1 (inr w)) (λ w. w) (member-union x b c .0 u)) (member-union x a (union b c) .0 t)),
-  λ t. member-union x a (union b c) .1 (⊎-elim (λ u. ⊎-map (λ w. w) (λ w. member-union x b c .1 (inl w)) (member-union x a b .0 u)) (λ u. inr (member-union x b c .1 (inr u))) (member-union x (union a b) c .0 t)),
-)

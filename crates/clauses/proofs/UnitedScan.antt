@@ -4,7 +4,7 @@ use mathlib.Core.List.{List, _∷_}
 use Prim.Native.Nat.{ℕ, _+_, _/_, _≤_, _<_}
 use lib.ListN.{drop}
 use Rattle.sets.specs.Sets.{union}
-use Rattle.sets.proofs.Unions.{union-empty, empty-union}
+use Rattle.sets.proofs.Unions.{union-empty, empty-union, union-onto}
 use Rattle.rules.specs.declared.field.Atom.{Atom}
 use Rattle.rules.specs.Contents.{Atoms}
 use Rattle.rules.specs.Reading.{atomOf, atomsOf}
@@ -12,7 +12,7 @@ use Rattle.steps.specs.Shrinking.{united}
 use Rattle.clauses.specs.Promise.{UnitesAt}
 use Rattle.clauses.specs.Scans.{atomsFrom, AtomsFrom}
 use Rattle.clauses.proofs.AtomsInTurn.{atoms-all, atoms-start, atoms-end, atoms-next, atoms-on-from}
-use Rattle.clauses.proofs.UnitedLaws.{union-onto, united-here, united-elsewhere}
+use Rattle.clauses.proofs.UnitedLaws.{united-here, united-elsewhere}
 
 -- the atoms from i on are left, and of the others the sets of a position are united
 pub record Uniting (v len i p all : ℕ) (content : List ℕ) : Type 0 where
