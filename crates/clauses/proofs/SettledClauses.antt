@@ -23,7 +23,6 @@ use Rattle.steps.specs.Shrinking.{united, settledBy, settledClause}
 use Rattle.steps.proofs.Looks.ClauseLaws.{ShowsSettled, settled-some}
 use Rattle.steps.proofs.Looks.LiveLaws.{member-united}
 use Rattle.clauses.specs.Marks.{isMarked, withMark}
-use Rattle.clauses.specs.Promise.{UnitesAt}
 use Rattle.clauses.specs.Scans.{atomsFrom, AtomsFrom, sharedIn}
 use Rattle.clauses.proofs.AtomsInTurn.{atoms-all, atoms-start, atoms-end, atoms-next, atom-fits, atom-listed, atoms-on-from}
 use Rattle.clauses.proofs.FrontRooms.{room-there}
@@ -202,7 +201,7 @@ module _ {v len i met tried : ℕ} {rooms content : List ℕ} (trying : Trying v
         pub trying-knows : T (isMarked (p - 1) tried) → Trying v len (i + 5) met tried rooms content
         trying-knows t = goes (closed λ s. trying .outside (p - 1) t (subst (ShowsSettled all box) (sym up) s)) (bare-marked again) (trying .outside)
 
-        module _ {sets : ℕ} (unites : UnitesAt content len p sets) {b : Bool} (test : b ≡ inside (getD rooms (p - 1) 0) sets) where
+        module _ {sets : ℕ} (unites : sets ≡ united p all) {b : Bool} (test : b ≡ inside (getD rooms (p - 1) 0) sets) where
           test-here : inside (roomAt box p) (united p all) ≡ b
           test-here = ap₂ inside (room-there v p rooms (trying-fits .0) (trying-fits .1)) (sym unites) ∙ sym test
 
