@@ -66,7 +66,8 @@ void make_ladder_random(struct rule_file *file, int clauses, int seed);
 /* Clauses of three positions at random, over two values or over four. */
 void make_random_two(struct rule_file *file, int clauses, int seed);
 void make_random_four(struct rule_file *file, int clauses, int seed);
-/* A file of exactly 32,768 bytes: many clauses, or one clause of 6,552 atoms. */
+/* A file of exactly 32,768 bytes: many clauses where `filled` is 0; else one clause of 6,552 atoms, in which
+   that many sets of each position are not empty. */
 void make_longest(struct rule_file *file, int filled, int seed);
 /* The search that goes 31 splits deep for each of `positions` positions. */
 void make_deep(struct rule_file *file, int positions, int unused);

@@ -125,6 +125,10 @@ module _ {v len i met tried : ℕ} {rooms content : List ℕ} (trying : Trying v
     united-later : united p later ≡ union (united p passed) (a .set)
     united-later = united-append p passed (a ∷ []) ∙ ap (union (united p passed)) (united-one a p refl)
 
+    -- a room that the union with it holds
+    held-later : ShowsSettled later box p → T (inside (roomAt box p) (union (united p passed) (a .set)))
+    held-later t = subst (λ (m : ℕ). T (inside (roomAt box p) m)) united-later t
+
     -- it adds nothing to the union of another position
     other-later : (q : ℕ) → (p ≡ q → ⊥) → united q later ≡ united q passed
     unfolding united
@@ -161,7 +165,7 @@ module _ {v len i met tried : ℕ} {rooms content : List ℕ} (trying : Trying v
       trying-passes none = goes unheld bare (trying .outside)
         where
           unheld : ShowsSettled later box p → ⊥
-          unheld t = not-empty (trying .apart p (inside-first (roomAt box p) (united p passed) (a .set) none (subst (λ (m : ℕ). T (inside (roomAt box p) m)) united-later t)))
+          unheld t = not-empty (trying .apart p (inside-first (roomAt box p) (united p passed) (a .set) none (held-later t)))
 
           bare : (k : ℕ) → (T (isMarked k met) → ⊥) → sharedIn box later (k + 1) ≡ 0
           bare k ne = by (ℕ-discrete k (p - 1))
@@ -180,7 +184,7 @@ module _ {v len i met tried : ℕ} {rooms content : List ℕ} (trying : Trying v
           unheld : ShowsSettled later box p → ⊥
           unheld t =
               let none : sharedIn box passed p ≡ 0 = ap (sharedIn box passed) (sym up) ∙ trying .unmet (p - 1) first in
-              subst T outer (inside-second (roomAt box p) (united p passed) (a .set) none (subst (λ (m : ℕ). T (inside (roomAt box p) m)) united-later t))
+              subst T outer (inside-second (roomAt box p) (united p passed) (a .set) none (held-later t))
 
           bare : (k : ℕ) → (T (isMarked k met′) → ⊥) → sharedIn box later (k + 1) ≡ 0
           bare k ne =

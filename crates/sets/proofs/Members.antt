@@ -130,30 +130,36 @@ member-full n x = (forth, back x)
     back zero h = absurd (not-suc-le-zero (h .1))
     back (suc k) h = member-only-if (suc k) (2 ^ n - 1) (inRange n) .1 (in-range n .1 (omega arith, h .0), member-digit k (2 ^ n - 1) .1 (digit-ones-low n k (h .2)))
 
+-- a power of two has one member
+pub member-power : (k x : ℕ) → member x (2 ^ k) ↔ (x ≡ suc k)
+member-power k x = (forth x, λ e. subst (λ (z : ℕ). member z (2 ^ k)) (sym e) (member-digit k (2 ^ k) .1 (digit-power-same k)))
+  where
+    forth : (z : ℕ) → member z (2 ^ k) → z ≡ suc k
+    forth zero t = absurd (member-not-zero (2 ^ k) t)
+    forth (suc j) t = only (ℕ-discrete j k)
+      where
+        only : Dec (j ≡ k) → suc j ≡ suc k
+        only (yes e) = ap suc e
+        only (no ne) =
+            let is : digit j (2 ^ k) ≡ 1 = member-digit j (2 ^ k) .0 t in
+            let is-not : digit j (2 ^ k) ≡ 0 = digit-power-other k j ne in
+            absurd (omega arith)
+
 pub member-single : (x y : ℕ) → member y (single x) ↔ ((1 ≤ x) × (x ≤ 32) × (y ≡ x))
 unfolding single
-member-single zero y = (λ t. absurd (not-suc-le-zero (in-range 0 .0 (member-only-if y (2 ^ (0 - 1)) (inRange 0) .0 t .0) .0)), λ h. absurd (not-suc-le-zero (h .0)))
-member-single (suc k) y = (forth y, back)
+member-single x y = (forth, back)
   where
-    place : suc k - 1 ≡ k
-    place = omega arith
+    up : 1 ≤ x → suc (x - 1) ≡ x
+    up h = omega arith
 
-    forth : (z : ℕ) → member z (onlyIf (inRange (suc k)) (2 ^ (suc k - 1))) → (1 ≤ suc k) × (suc k ≤ 32) × (z ≡ suc k)
-    forth zero t = absurd (member-not-zero (onlyIf (inRange (suc k)) (2 ^ (suc k - 1))) t)
-    forth (suc j) t =
-        let s = member-only-if (suc j) (2 ^ (suc k - 1)) (inRange (suc k)) .0 t in
-        let d : digit j (2 ^ k) ≡ 1 = ap (λ (i : ℕ). digit j (2 ^ i)) (sym place) ∙ member-digit j (2 ^ (suc k - 1)) .0 (s .1) in
-        (zero-lt-suc k, in-range (suc k) .0 (s .0) .1, ap suc (only (ℕ-discrete j k) d))
-      where
-        only : Dec (j ≡ k) → digit j (2 ^ k) ≡ 1 → j ≡ k
-        only (yes e) d = e
-        only (no ne) d = let z : digit j (2 ^ k) ≡ 0 = digit-power-other k j ne in absurd (omega arith)
+    forth : member y (onlyIf (inRange x) (2 ^ (x - 1))) → (1 ≤ x) × (x ≤ 32) × (y ≡ x)
+    forth t =
+        let s = member-only-if y (2 ^ (x - 1)) (inRange x) .0 t in
+        let range = in-range x .0 (s .0) in
+        (range .0, range .1, member-power (x - 1) y .0 (s .1) ∙ up (range .0))
 
-    back : (1 ≤ suc k) × (suc k ≤ 32) × (y ≡ suc k) → member y (onlyIf (inRange (suc k)) (2 ^ (suc k - 1)))
-    back h =
-        subst (λ (z : ℕ). member z (onlyIf (inRange (suc k)) (2 ^ (suc k - 1)))) (sym (h .2))
-        (member-only-if (suc k) (2 ^ (suc k - 1)) (inRange (suc k)) .1
-        (in-range (suc k) .1 (h .0, h .1), member-digit k (2 ^ (suc k - 1)) .1 (ap (λ (i : ℕ). digit k (2 ^ i)) place ∙ digit-power-same k)))
+    back : (1 ≤ x) × (x ≤ 32) × (y ≡ x) → member y (onlyIf (inRange x) (2 ^ (x - 1)))
+    back h = member-only-if y (2 ^ (x - 1)) (inRange x) .1 (in-range x .1 (h .0, h .1), member-power (x - 1) y .1 (h .2 ∙ sym (up (h .0))))
 
 pub member-complement : (n m x : ℕ) → member x (complement n m) ↔ ((n ≤ 32) × (1 ≤ x) × (x ≤ n) × (member x m → ⊥))
 unfolding complement common

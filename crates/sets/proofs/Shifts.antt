@@ -1,7 +1,7 @@
 -- The shifts by which the code makes {1..n} and {x} are the definitions. Assumes nothing.
 use mathlib.Core.Path.{_≡_, refl, sym, ap, _∙_}
 use mathlib.Core.Bool.{Bool, true, false}
-use Prim.Native.Nat.{ℕ, _-_, _*_, _/_, _%_, _^_, _≤_}
+use Prim.Native.Nat.{ℕ, _-_, _*_, _/_, _%_, _^_, _≤_, _<_}
 use native.Mathlib.Nat.{add-sub-of-le, one-mul}
 use native.Mathlib.Omega.{arith}
 use lib.Dec.{T, lit<}
@@ -34,6 +34,10 @@ full-shifted n h l =
     ap (λ (m : ℕ). (2 ^ m - 1) / 2 ^ (32 - n)) (sym (add-sub-of-le l)) ∙ ap (λ (m : ℕ). m / 2 ^ (32 - n)) (ones-split n (32 - n))
     ∙ high (2 ^ n - 1) (32 - n) (ones-lt (32 - n)) ∙ only-if-so (inRange n) (2 ^ n - 1) (in-range n .1 (h, l))
 
+-- one that is shifted within a width is a power of two
+pub one-shifted : (w k : ℕ) → k < w → (1 * 2 ^ k) % 2 ^ w ≡ 2 ^ k
+one-shifted w k h = shl-exact 1 k w (lit< tt) (omega arith) ∙ one-mul (2 ^ k)
+
 pub single-shifted : (x : ℕ) → 1 ≤ x → x ≤ 32 → (1 * 2 ^ (x - 1)) % 2 ^ 32 ≡ single x
 unfolding single
-single-shifted x h l = shl-exact 1 (x - 1) 32 (lit< tt) (omega arith) ∙ one-mul (2 ^ (x - 1)) ∙ only-if-so (inRange x) (2 ^ (x - 1)) (in-range x .1 (h, l))
+single-shifted x h l = one-shifted 32 (x - 1) (omega arith) ∙ only-if-so (inRange x) (2 ^ (x - 1)) (in-range x .1 (h, l))

@@ -3,8 +3,8 @@ use mathlib.Core.Path.{ap}
 use Prim.Native.Nat.{ℕ}
 use borrow.Author.Needs.{needs}
 use Rattle.sets.specs.Sets.{common, inside}
+use Rattle.sets.proofs.Shifts.{one-shifted}
 use Rattle.clauses.specs.Marks.{isMarked}
-use Rattle.clauses.proofs.MarkLaws.{one-shifted}
 use Rattle.clauses.proofs.marks.is_marked.Statement.{statement}
 use Rattle.clauses.proofs.marks.is_marked.Tie as tie
 
@@ -13,7 +13,7 @@ shl-one c = search needs
 
 returns : tie.Need-returns
 unfolding isMarked inside common
-returns c = ap (λ (one : ℕ). inside one (c .args .marks)) (one-shifted (c .args .p) (c .pre))
+returns c = ap (λ (one : ℕ). inside one (c .args .marks)) (one-shifted 64 (c .args .p) (c .pre))
 
 pub is-marked-spec : {M : Type 1} → statement M
 is-marked-spec = tie.close (tie.spec shl-one returns)

@@ -2,8 +2,8 @@
 use mathlib.Core.Path.{ap}
 use borrow.Author.Needs.{needs}
 use Rattle.sets.specs.Sets.{union}
+use Rattle.sets.proofs.Shifts.{one-shifted}
 use Rattle.clauses.specs.Marks.{withMark}
-use Rattle.clauses.proofs.MarkLaws.{one-shifted}
 use Rattle.clauses.proofs.marks.with_mark.Statement.{statement}
 use Rattle.clauses.proofs.marks.with_mark.Tie as tie
 
@@ -12,7 +12,7 @@ shl-result c = search needs
 
 returns : tie.Need-returns
 unfolding withMark union
-returns c = ap (union (c .args .marks)) (one-shifted (c .args .p) (c .pre))
+returns c = ap (union (c .args .marks)) (one-shifted 64 (c .args .p) (c .pre))
 
 pub with-mark-spec : {M : Type 1} → statement M
 with-mark-spec = tie.close (tie.spec shl-result returns)
