@@ -27,8 +27,9 @@ static struct rule_file file;
 static uint32_t below(uint32_t end) { return random_below(&chance, end); }
 static int one_in(uint32_t of) { return random_chance(&chance, 1, of); }
 
-/* counts what the current file has in it */
-static void survey(void);
+/* The starting set of each position of the current file, which is not refused; answers how many positions it
+   has. */
+static uint32_t find_starts(uint32_t *sets);
 
 /* ---- calling both ---- */
 
@@ -50,6 +51,11 @@ struct planner {
                  uint64_t *dead_ends, uint64_t *rounds);
     uint64_t (*most_rounds)(const uint8_t *input, size_t input_len);
 };
+
+/* counts what the current file has in it, which was not refused */
+static void survey(const struct outcome *outcome);
+/* counts a refusal of the current file */
+static void survey_refusal(const struct outcome *outcome);
 
 static const struct planner proved = { "planner", oarloom_plan, oarloom_rounds_most };
 static const struct planner yardstick = { "yardstick", yardstick_plan, yardstick_rounds_most };
@@ -182,6 +188,29 @@ static void count_rounds(const struct outcome *outcome)
         rounds.most = outcome->rounds;
 }
 
+/* Whether there are as few splits as the starting sets allow: at most the product of their sizes less one. The
+   product is worked out only as far as it is needed. */
+static int splits_within_bound(uint64_t splits)
+{
+    uint32_t sets[64], v = find_starts(sets);
+    uint64_t product = 1;
+
+    for (uint32_t p = 0; p < v && product <= splits; p++)
+        product *= (uint64_t)__builtin_popcount(sets[p]);
+    return splits < product;
+}
+
+/* Whether each value of a plan lies inside its position's starting set. */
+static int plan_within_starts(const uint8_t *values)
+{
+    uint32_t sets[64], v = find_starts(sets);
+
+    for (uint32_t p = 0; p < v; p++)
+        if (values[p] < 1 || values[p] > 32 || !(sets[p] & value_alone(values[p])))
+            return 0;
+    return 1;
+}
+
 /* Calls both with the current file and compares. Answers what came of it. */
 static struct outcome compare(size_t answer_len, uint64_t allowance)
 {
@@ -229,25 +258,34 @@ static struct outcome compare(size_t answer_len, uint64_t allowance)
         stop("both have rounds that cannot be", &planned, &measured, area, answer_len, allowance);
     if (planned.number >= 10 && planned.number != 11 && planned.number != 12 && planned.most_rounds != 0)
         stop("both have a most for a file that is refused", &planned, &measured, area, answer_len, allowance);
+    /* Demands 2 and 3, by the starting sets. */
+    if (planned.number < 10 && !splits_within_bound(planned.splits))
+        stop("both have more splits than the starting sets allow", &planned, &measured, area, answer_len, allowance);
+    if (planned.number == 0 && !plan_within_starts(planned.area + GUARD))
+        stop("both have a plan outside the starting sets", &planned, &measured, area, answer_len, allowance);
     calls_by_number[planned.number % 32]++;
     if (planned.splits > most_splits)
         most_splits = planned.splits;
     if (planned.number < 10) {
         count_rounds(&planned);
-        survey();
+        survey(&planned);
+    } else {
+        survey_refusal(&planned);
     }
     return planned;
 }
 
 /* ---- examples with the replies that are right: 01's, d with the place of 02 (R-3) and l with its counts
-   (R-2), all with the rounds of 02 (R-10); and files that tell readings of R-3, of R-10 and of R-2 apart,
-   which stand in crates/bench_examples/src/ too: unmet.rt and step4.rt there work out R-3 and R-2 by hand ---- */
+   (R-2), all with the rounds of 02 (R-10); files that tell readings of R-3, of R-10 and of R-2 apart,
+   which stand in crates/bench_examples/src/ too: unmet.rt and step4.rt there work out R-3 and R-2 by hand;
+   and files with starting sets (R-6) ---- */
 
-enum { CLAUSE = -1, EQUALITY = -2, END = -3 };
+enum { CLAUSE = -1, EQUALITY = -2, START = -3, END = -4 };
 
 static const struct example {
     const char *name;
-    int rules[40]; /* v, n; then a clause with position, set, ..; an equality with M, position, .. */
+    int rules[40]; /* v, n; then a clause with position, set, ..; an equality with M, position, ..; a starting
+                      set with its position and the set */
     uint64_t allowance, number, place, splits, dead_ends, rounds;
     const char *plan; /* a digit for each position */
 } examples[] = {
@@ -302,6 +340,19 @@ static const struct example {
     { "values settled", { 5, 3, CLAUSE, 1, 3, CLAUSE, 2, 1, CLAUSE, 3, 2, EQUALITY, 7, 1, 2, 3, 4, 5, END },
       1000000, 0, 0, 1, 0, 2, "11213" },
     { "later clause", { 3, 2, CLAUSE, 2, 1, 3, 1, CLAUSE, 1, 2, 2, 2, END }, 1000000, 0, 0, 1, 0, 1, "121" },
+    { "start behind the rule it makes dead", { 2, 3, CLAUSE, 1, 1, START, 1, 6, END }, 1000000, 1, 5, 0, 1, 1, "" },
+    { "start before it", { 2, 3, START, 1, 6, CLAUSE, 1, 1, END }, 1000000, 1, 13, 0, 1, 1, "" },
+    { "start that shares nothing with M", { 2, 3, EQUALITY, 3, 1, 2, START, 1, 4, END }, 1000000, 1, 5, 0, 1, 1, "" },
+    { "starts alone", { 2, 3, START, 2, 4, START, 1, 6, END }, 0, 0, 0, 0, 0, 1, "23" },
+    { "starts of one value", { 2, 3, START, 1, 4, START, 2, 2, END }, 0, 0, 0, 0, 0, 1, "32" },
+    { "start {1..n}, e", { 2, 2, EQUALITY, 3, 1, 2, START, 1, 3, END }, 1000000, 0, 0, 1, 0, 1, "12" },
+    { "start, rounds at the bound", { 2, 2, EQUALITY, 3, 1, 2, START, 1, 2, END }, 0, 0, 0, 0, 0, 2, "21" },
+    { "starts with gaps, split", { 2, 5, START, 1, 18, CLAUSE, 1, 16, 2, 16, START, 2, 20, END },
+      1000000, 0, 0, 1, 0, 1, "25" },
+    { "starts with gaps, allowance 0", { 2, 5, START, 1, 18, CLAUSE, 1, 16, 2, 16, START, 2, 20, END },
+      0, 2, 0, 0, 0, 1, "" },
+    { "settled by the start", { 2, 3, CLAUSE, 1, 6, 2, 1, START, 1, 6, END }, 0, 0, 0, 0, 0, 1, "21" },
+    { "not live by the start", { 3, 3, CLAUSE, 1, 1, 2, 1, 3, 1, START, 1, 6, END }, 1000000, 0, 0, 1, 0, 1, "211" },
     { "largest", { 64, 32, END }, 1000000, 0, 0, 0, 0, 1,
       "1111111111111111111111111111111111111111111111111111111111111111" },
 };
@@ -309,7 +360,7 @@ static const struct example {
 static const struct refused {
     const char *name;
     size_t length;
-    uint8_t bytes[16];
+    uint8_t bytes[24];
     uint64_t number, place;
 } refused[] = {
     { "empty input", 0, { 0 }, 14, 0 },
@@ -318,20 +369,38 @@ static const struct refused {
     { "a second header", 10, { 1, 0, 2, 2, 2, 1, 0, 2, 2, 2 }, 15, 5 },
     { "a clause of four bytes", 12, { 1, 0, 2, 2, 2, 2, 0, 4, 1, 0, 0, 0 }, 17, 5 },
     { "value 3 of 2", 13, { 1, 0, 2, 2, 2, 2, 0, 5, 1, 0, 0, 0, 4 }, 20, 5 },
+    { "tag 5", 13, { 1, 0, 2, 2, 2, 5, 0, 5, 1, 0, 0, 0, 1 }, 16, 5 },
+    { "tag 4 first", 13, { 4, 0, 5, 1, 0, 0, 0, 1, 1, 0, 2, 2, 2 }, 14, 0 },
+    { "a start of four bytes", 12, { 1, 0, 2, 2, 2, 4, 0, 4, 1, 0, 0, 0 }, 17, 5 },
+    { "a start of six bytes", 14, { 1, 0, 2, 2, 2, 4, 0, 6, 1, 0, 0, 0, 1, 0 }, 17, 5 },
+    { "a start of six bytes that are missing", 8, { 1, 0, 2, 2, 2, 4, 0, 6 }, 17, 5 },
+    { "a start that is cut", 12, { 1, 0, 2, 2, 2, 4, 0, 5, 1, 0, 0, 0 }, 13, 5 },
+    { "a start of position 0, empty", 13, { 1, 0, 2, 2, 2, 4, 0, 5, 0, 0, 0, 0, 0 }, 19, 5 },
+    { "a start of position 3 of 2, value 3 of 2", 13, { 1, 0, 2, 2, 2, 4, 0, 5, 3, 0, 0, 0, 4 }, 19, 5 },
+    { "an empty start", 13, { 1, 0, 2, 2, 2, 4, 0, 5, 1, 0, 0, 0, 0 }, 26, 5 },
+    { "a second start, value 3 of 2", 21, { 1, 0, 2, 2, 2, 4, 0, 5, 1, 0, 0, 0, 1, 4, 0, 5, 1, 0, 0, 0, 4 }, 20, 13 },
+    { "a second start, empty", 21, { 1, 0, 2, 2, 2, 4, 0, 5, 1, 0, 0, 0, 1, 4, 0, 5, 1, 0, 0, 0, 0 }, 26, 13 },
+    { "a second start", 21, { 1, 0, 2, 2, 2, 4, 0, 5, 1, 0, 0, 0, 1, 4, 0, 5, 1, 0, 0, 0, 2 }, 27, 13 },
+    { "a second start, equal", 21, { 1, 0, 2, 2, 2, 4, 0, 5, 1, 0, 0, 0, 1, 4, 0, 5, 1, 0, 0, 0, 1 }, 27, 13 },
 };
 
-static void write_rules(const int *rules)
+/* Writes the file. Answers its most rounds: the sum over positions of starting size less one, plus one. */
+static uint64_t write_rules(const int *rules)
 {
-    int kind = 0;
+    int kind = 0, most = rules[0] * (rules[1] - 1) + 1;
 
     write_header(&file, (uint32_t)rules[0], (uint32_t)rules[1]);
     for (const int *at = rules + 2; *at != END; at++) {
-        if (*at == CLAUSE || *at == EQUALITY) {
-            kind = *at;
-            if (kind == CLAUSE)
-                write_clause(&file);
-            else
-                write_equality(&file, (uint32_t)*++at);
+        if (*at == CLAUSE) {
+            kind = CLAUSE;
+            write_clause(&file);
+        } else if (*at == EQUALITY) {
+            kind = EQUALITY;
+            write_equality(&file, (uint32_t)*++at);
+        } else if (*at == START) {
+            write_start(&file, (uint32_t)at[1], (uint32_t)at[2]);
+            most -= rules[1] - __builtin_popcount((uint32_t)at[2]);
+            at += 2;
         } else if (kind == CLAUSE) {
             write_atom(&file, (uint32_t)at[0], (uint32_t)at[1]);
             at++;
@@ -339,6 +408,7 @@ static void write_rules(const int *rules)
             write_named(&file, (uint32_t)*at);
         }
     }
+    return (uint64_t)most;
 }
 
 static void expect(int holds, const char *name)
@@ -353,14 +423,13 @@ static void compare_examples(void)
 {
     for (size_t k = 0; k < sizeof examples / sizeof *examples; k++) {
         const struct example *example = &examples[k];
+        uint64_t most = write_rules(example->rules);
         struct outcome outcome;
 
-        write_rules(example->rules);
         outcome = compare(64, example->allowance);
         expect(outcome.number == example->number && outcome.place == example->place
                    && outcome.splits == example->splits && outcome.dead_ends == example->dead_ends
-                   && outcome.rounds == example->rounds
-                   && outcome.most_rounds == (uint64_t)(example->rules[0] * (example->rules[1] - 1) + 1),
+                   && outcome.rounds == example->rounds && outcome.most_rounds == most,
                example->name);
         for (size_t i = 0; example->plan[i]; i++)
             expect(outcome.area[GUARD + i] == example->plan[i] - '0', example->name);
@@ -403,6 +472,48 @@ static uint32_t two_values(uint32_t n)
     uint32_t set = value_alone(1 + below(n));
 
     return set | value_alone(1 + below(n));
+}
+
+/* A starting set within {1..n}, never empty: {1..n}, one value, the low values, the high values, all values but
+   one, or any, with gaps. A wide one has no fewer than half of the values. */
+static uint32_t any_start(uint32_t n, int wide)
+{
+    uint32_t all = values_to(n), set = 0;
+
+    switch (wide ? 4 + below(4) : below(10)) {
+    case 0:
+    case 1: set = value_alone(1 + below(n)); break;
+    case 2: set = values_to(1 + below(n)); break;
+    case 3: set = all & ~values_to(below(n)); break;
+    case 4: set = all; break;
+    case 5: set = all & ~value_alone(1 + below(n)); break;
+    case 6: set = all & ~values_to(below((n + 1) / 2)); break;
+    case 7: set = values_to(n - below((n + 1) / 2)); break;
+    default: set = (uint32_t)random_next(&chance) & all;
+    }
+    return set ? set : value_alone(1 + below(n));
+}
+
+/* `size` of the values 1 to n, which may be all of them */
+static uint32_t some_values(uint32_t n, uint32_t size)
+{
+    uint32_t set = 0;
+
+    for (uint32_t left = size < n ? size : n; left > 0;) {
+        uint32_t value = value_alone(1 + below(n));
+
+        left -= !(set & value);
+        set |= value;
+    }
+    return set;
+}
+
+/* the value of a set before which `before` smaller ones are in it, alone */
+static uint32_t value_of(uint32_t set, uint32_t before)
+{
+    for (; before > 0; before--)
+        set &= set - 1;
+    return set & -set;
 }
 
 /* adds an atom to the clause */
@@ -530,22 +641,36 @@ static void make_climb(void)
 
 /* One value a round: a chain of clauses, each of which takes a value from a position as soon as the one before
    it has taken a value from another. They stand in the file from the chain's end to its beginning. Where the
-   chain leaves every position one value, the rounds are as many as there can be. */
+   chain leaves every position one value, the rounds are as many as there can be. In every other file the
+   positions have starting sets, all of one size, and the chain goes by their values. */
 static void make_one_a_round(void)
 {
     uint32_t v = 2 + below(5), n = 2 + below(4), turn = below(v);
-    uint32_t all = values_to(n);
-    int rising = one_in(2);
-    uint32_t links = one_in(3) ? 1 + below(v * (n - 1)) : v * (n - 1);
+    uint32_t all = values_to(n), size = n, sets[6];
+    int rising = one_in(2), started = one_in(2);
+    uint32_t links;
 
+    if (started) {
+        n += below(8);
+        all = values_to(n);
+    }
+    for (uint32_t p = 0; p < v; p++)
+        sets[p] = some_values(n, size);
+    links = one_in(3) ? 1 + below(v * (size - 1)) : v * (size - 1);
     write_header(&file, v, n);
+    for (uint32_t p = 0; started && p < v; p++)
+        write_start(&file, 1 + p, sets[p]);
     for (; links > 0; links--) {
         uint32_t before = links - 2, last = links - 1; /* links of the chain, counted from 0 */
 
         write_clause(&file);
-        if (links > 1)
-            write_atom(&file, 1 + (turn + before) % v, value_alone(rising ? 1 + before / v : n - before / v));
-        write_atom(&file, 1 + (turn + last) % v, all & ~value_alone(rising ? 1 + last / v : n - last / v));
+        if (links > 1) {
+            uint32_t p = (turn + before) % v;
+
+            write_atom(&file, 1 + p, value_of(sets[p], rising ? before / v : size - 1 - before / v));
+        }
+        write_atom(&file, 1 + (turn + last) % v,
+                   all & ~value_of(sets[(turn + last) % v], rising ? last / v : size - 1 - last / v));
     }
     if (one_in(4))
         any_clause(v, n, 3);
@@ -686,10 +811,57 @@ static void make_values_settled(void)
         any_equality(v, n, v);
 }
 
+/* Rules that go by starting sets: each position has a few of many values, and a rule's set has some of these,
+   none or all, and others that are not fitted. An equality asks for values that its positions have. The
+   starting sets stand before the rules, behind them, or one before each rule as long as there are any. */
+static void make_started(void)
+{
+    uint32_t v = 2 + below(6), n = one_in(4) ? 32 : 3 + below(10), where = below(3), next = 1;
+    uint32_t all = values_to(n), sets[7];
+
+    for (uint32_t p = 0; p < v; p++)
+        sets[p] = some_values(n, one_in(6) ? 1 : 2 + below(3));
+    write_header(&file, v, n);
+    for (; where == 0 && next <= v; next++)
+        write_start(&file, next, sets[next - 1]);
+    for (uint32_t left = v * (1 + below(4)); left > 0; left--) {
+        if (where == 1 && next <= v) {
+            write_start(&file, next, sets[next - 1]);
+            next++;
+        }
+        if (one_in(8)) {
+            uint32_t p = below(v), q = below(v), asked = 0;
+
+            asked |= value_of(sets[p], below((uint32_t)__builtin_popcount(sets[p])));
+            asked |= value_of(sets[q], below((uint32_t)__builtin_popcount(sets[q])));
+            write_equality(&file, one_in(6) ? sets[p] : asked);
+            write_named(&file, 1 + p);
+            write_named(&file, 1 + q);
+            if (one_in(3))
+                write_named(&file, 1 + below(v));
+            continue;
+        }
+        write_clause(&file);
+        for (uint32_t atoms = 2 + below(2); atoms > 0; atoms--) {
+            uint32_t p = below(v), set = (uint32_t)random_next(&chance) & sets[p];
+
+            if (one_in(8))
+                set = 0;
+            else if (one_in(8))
+                set = sets[p];
+            if (one_in(2))
+                set |= (uint32_t)random_next(&chance) & all & ~sets[p];
+            write_atom(&file, 1 + p, set);
+        }
+    }
+    for (; next <= v; next++)
+        write_start(&file, next, sets[next - 1]);
+}
+
 /* The workloads of the table, in small. */
 static void make_workload(void)
 {
-    switch (below(7)) {
+    switch (below(8)) {
     case 0: make_sudoku(&file, 4, (int)below(9)); break;
     case 1: make_sudoku(&file, 6, 6 + (int)below(12)); break;
     case 2: make_deep(&file, 1 + (int)below(5), 0); break;
@@ -703,6 +875,12 @@ static void make_workload(void)
         int size = 1 + (int)below(8);
 
         make_half_wired(&file, size, (int)below(3));
+        break;
+    }
+    case 5: {
+        int pairs = 100 + (int)below(300);
+
+        make_fitted(&file, pairs, (int)below(1000));
         break;
     }
     default: {
@@ -753,7 +931,11 @@ static void make_limits(void)
 
     write_header(&file, v, n);
     for (uint32_t left = below(6); left > 0; left--) {
-        if (one_in(3)) {
+        if (one_in(4)) {
+            uint32_t position = strict || !one_in(4) ? 1 + below(within_v) : edge(within_v);
+
+            write_start(&file, position, strict || !one_in(4) ? any_start(within_n, 1) : edge_set(within_n));
+        } else if (one_in(3)) {
             uint32_t positions = one_in(3) ? 62 + below(strict ? 3 : 4) : below(6);
 
             write_equality(&file, strict ? any_set(within_n) : edge_set(within_n));
@@ -791,6 +973,10 @@ static void make_long(void)
     uint32_t v = 1 + below(64), n = 1 + below(32);
 
     write_header(&file, v, n);
+    if (one_in(2))
+        for (uint32_t p = 1; p <= v; p++)
+            if (!one_in(8))
+                write_start(&file, p, any_start(n, 1));
     while (target - file.length > 200) {
         if (one_in(20))
             any_equality(v, n, 1);
@@ -868,6 +1054,100 @@ static void insert(size_t at, const uint8_t *bytes, size_t length)
     file.length += length;
 }
 
+/* Where a field can be added: behind any whole field; at 0 where there is none. */
+static size_t any_border(void)
+{
+    size_t fields = find_fields();
+
+    return fields > 0 ? starts[1 + below((uint32_t)fields)] : 0;
+}
+
+/* A field that is to be added. */
+static struct rule_file piece;
+
+static void write_piece(uint32_t position, uint32_t set)
+{
+    piece.length = 0;
+    write_start(&piece, position, set);
+}
+
+/* A starting set's field with a fault, for a file where `p` has the starting set `set`. Where n is 32 no value
+   is above it, and the field has another fault or none. */
+static void write_faulty_piece(uint32_t v, uint32_t n, uint32_t p, uint32_t set)
+{
+    static const uint32_t lengths[] = { 0, 1, 4, 6, 9, 10, 69, 256, 261 };
+    uint32_t above = n < 32 ? value_alone(n + 1 + below(32 - n)) : 0;
+    uint32_t length, missing;
+
+    switch (below(10)) {
+    case 0: /* an empty set: 26, whether the position has one already or not */
+    case 1:
+        write_piece(1 + below(v), 0);
+        break;
+    case 2: /* a second one: 27 */
+    case 3:
+        write_piece(p, any_start(n, 0));
+        break;
+    case 4: /* a second one that is equal: 27 too */
+        write_piece(p, set);
+        break;
+    case 5: /* a second one that is empty: 26 */
+        write_piece(p, 0);
+        break;
+    case 6: /* a second one with a value above n: 20 */
+        write_piece(p, above | any_set(n));
+        break;
+    case 7: /* a position out of range: 19, whatever the set is */
+        p = one_in(2) ? v + 1 : one_in(2) ? 0 : 255;
+        write_piece(p, one_in(2) ? above : any_set(n));
+        break;
+    default: /* another length, 17, with or without the bytes; or the right one and bytes missing: 13, if none follow */
+        length = one_in(4) ? 5 : lengths[below(sizeof lengths / sizeof *lengths)];
+        missing = one_in(3) ? 1 + below(5) : 0;
+        piece.length = 0;
+        write_byte(&piece, 4);
+        write_byte(&piece, length >> 8);
+        write_byte(&piece, length & 255);
+        for (uint32_t at = 0; at + missing < length; at++)
+            write_byte(&piece, at == 0 ? p : at == 4 ? 1 : 0);
+    }
+}
+
+/* Adds starting sets to the file: at all positions, at most of them or at a few, wide ones or any; behind the
+   header, at the end or at any place among the fields; and now and then one that is faulty. Positions that
+   have one already are left out. */
+static void add_starts(void)
+{
+    uint64_t have = 0;
+    uint32_t v, n, how_many = below(4), where = below(4), p = 0, set = 0;
+    int wide = one_in(2);
+    size_t fields = find_fields();
+
+    if (fields == 0 || file.bytes[0] != 1 || starts[1] != 5 || file.length + 800 > LONGEST_FILE)
+        return;
+    v = file.bytes[3];
+    n = file.bytes[4];
+    if (v < 1 || v > 64 || n < 1 || n > 32)
+        return;
+    for (size_t k = 1; k < fields; k++)
+        if (file.bytes[starts[k]] == 4 && starts[k + 1] - starts[k] == 8)
+            have |= (uint64_t)1 << (file.bytes[starts[k] + 3] + 63u) % 64;
+    for (uint32_t q = 1; q <= v; q++) {
+        if (have >> (q - 1) & 1)
+            continue;
+        if (how_many == 0 ? 0 : how_many == 1 ? one_in(4) : !one_in(v < 4 ? 2 : v / 2))
+            continue;
+        p = q;
+        set = any_start(n, wide);
+        write_piece(p, set);
+        insert(where == 0 ? 5 : where == 1 ? file.length : any_border(), piece.bytes, piece.length);
+    }
+    if (p != 0 && one_in(6)) {
+        write_faulty_piece(v, n, p, set);
+        insert(one_in(3) ? file.length : any_border(), piece.bytes, piece.length);
+    }
+}
+
 /* Damages the file in one place. */
 static void damage(void)
 {
@@ -878,7 +1158,7 @@ static void damage(void)
         return;
     field = fields ? starts[below((uint32_t)fields)] : 0;
     at = below((uint32_t)file.length);
-    switch (below(12)) {
+    switch (below(13)) {
     case 0: /* one bit */
         file.bytes[at] ^= (uint8_t)(1 << below(8));
         break;
@@ -928,6 +1208,14 @@ static void damage(void)
         if (field + 3 < file.length)
             file.bytes[field + 3] = telling[below(sizeof telling)];
         break;
+    case 11: /* a field stands twice */
+        if (fields > 0) {
+            size_t k = below((uint32_t)fields), size = starts[k + 1] - starts[k];
+
+            memcpy(piece.bytes, file.bytes + starts[k], size);
+            insert(any_border(), piece.bytes, size);
+        }
+        break;
     default: /* a later byte of the content that is a position in an atom and in an equality */
         if (field + 8 < file.length)
             file.bytes[field + 8] = telling[below(sizeof telling)];
@@ -938,10 +1226,85 @@ static void damage(void)
 
 static struct {
     uint64_t calls, empty_clause, several_atoms, named_twice, no_positions, empty_set, full_set, at_limit;
+    uint64_t start, start_behind, start_everywhere, start_gap, start_above_1, start_single, start_full;
+    uint64_t start_not_live, start_settled, start_plan, start_undecided, start_split;
 } had;
 
-/* Only for files that are not refused. */
-static void survey(void)
+static uint32_t set_at(const uint8_t *at)
+{
+    return (uint32_t)at[0] << 24 | (uint32_t)at[1] << 16 | (uint32_t)at[2] << 8 | at[3];
+}
+
+static uint32_t find_starts(uint32_t *sets)
+{
+    size_t fields = find_fields();
+    uint32_t v = file.bytes[3];
+
+    for (uint32_t p = 0; p < v; p++)
+        sets[p] = values_to(file.bytes[4]);
+    for (size_t k = 1; k < fields; k++)
+        if (file.bytes[starts[k]] == 4)
+            sets[file.bytes[starts[k] + 3] - 1] = set_at(file.bytes + starts[k] + 4);
+    return v;
+}
+
+/* Whether a clause is settled from the start by a starting set that is not {1..n}; and whether it has a
+   position that has a set there and is not live from the start. Both go by united sets. */
+static void survey_clause(const uint8_t *at, const uint8_t *end, const uint32_t *sets, uint32_t all, int *settled,
+                          int *not_live)
+{
+    uint32_t united[64] = { 0 };
+
+    for (; at < end; at += 5)
+        united[at[0] - 1] |= set_at(at + 1);
+    for (uint32_t p = 0; p < file.bytes[3]; p++) {
+        *settled |= united[p] != all && (sets[p] & ~united[p]) == 0;
+        *not_live |= united[p] != 0 && (sets[p] & united[p]) == 0;
+    }
+}
+
+/* what the file's starting sets are, and what came of it where there are any */
+static void survey_starts(const struct outcome *outcome)
+{
+    uint32_t sets[64], v = find_starts(sets), all = values_to(file.bytes[4]), given = 0;
+    size_t fields = find_fields();
+    int behind = 0, rule = 0, gap = 0, above_1 = 0, single = 0, full = 0, settled = 0, not_live = 0;
+
+    for (size_t k = 1; k < fields; k++) {
+        const uint8_t *at = file.bytes + starts[k] + 3, *end = file.bytes + starts[k + 1];
+
+        if (file.bytes[starts[k]] == 4) {
+            uint32_t set = set_at(at + 1), filled = set | ((set & -set) - 1);
+
+            given++;
+            behind |= rule;
+            gap |= (filled & (filled + 1)) != 0; /* a value is missing between two of its values */
+            above_1 |= (set & 1) == 0;
+            single |= (set & (set - 1)) == 0;
+            full |= set == all;
+        } else {
+            rule = 1;
+            if (file.bytes[starts[k]] == 2)
+                survey_clause(at, end, sets, all, &settled, &not_live);
+        }
+    }
+    had.start += given > 0;
+    had.start_behind += (uint64_t)behind;
+    had.start_everywhere += given == v;
+    had.start_gap += (uint64_t)gap;
+    had.start_above_1 += (uint64_t)above_1;
+    had.start_single += (uint64_t)single;
+    had.start_full += (uint64_t)full;
+    had.start_settled += (uint64_t)settled;
+    had.start_not_live += (uint64_t)not_live;
+    if (given > 0) {
+        had.start_plan += outcome->number == 0;
+        had.start_undecided += outcome->number == 2;
+        had.start_split += outcome->splits > 0;
+    }
+}
+
+static void survey(const struct outcome *outcome)
 {
     size_t fields = find_fields();
     uint32_t v = file.bytes[3], all = values_to(file.bytes[4]);
@@ -952,14 +1315,15 @@ static void survey(void)
         int is_clause = file.bytes[starts[k]] == 2;
         uint64_t named = 0;
 
+        if (file.bytes[starts[k]] == 4)
+            continue;
         if (is_clause && at == end)
             empty_clause = 1;
         if (!is_clause && end - at == 4)
             no_positions = 1;
         for (int first = 1; at < end; first = 0) {
             if (is_clause || first) { /* a set: in an atom behind its position, in an equality first */
-                const uint8_t *s = at + is_clause;
-                uint32_t set = (uint32_t)s[0] << 24 | (uint32_t)s[1] << 16 | (uint32_t)s[2] << 8 | s[3];
+                uint32_t set = set_at(at + is_clause);
 
                 empty |= set == 0;
                 full |= set == all;
@@ -982,6 +1346,31 @@ static void survey(void)
     had.empty_set += (uint64_t)empty;
     had.full_set += (uint64_t)full;
     had.at_limit += v == 64 && file.bytes[4] == 32;
+    survey_starts(outcome);
+}
+
+/* Refusals at a starting set's field, by number; and of those for an empty set, such where the position has a
+   starting set already; of those for a second one, such where both are equal. */
+static struct {
+    uint64_t by_number[32], empty_second, equal_second;
+} refused_start;
+
+static void survey_refusal(const struct outcome *outcome)
+{
+    uint64_t number = outcome->number, place = outcome->place;
+    size_t fields = find_fields();
+
+    if (number < 13 || place == 0 || file.bytes[place] != 4)
+        return;
+    refused_start.by_number[number % 32]++;
+    if (number != 26 && number != 27)
+        return;
+    for (size_t k = 1; k < fields && starts[k] < place; k++)
+        if (file.bytes[starts[k]] == 4 && file.bytes[starts[k] + 3] == file.bytes[place + 3]) {
+            refused_start.empty_second += number == 26;
+            refused_start.equal_second +=
+                number == 27 && memcmp(file.bytes + starts[k] + 4, file.bytes + place + 4, 4) == 0;
+        }
 }
 
 /* ---- the calls ---- */
@@ -1048,7 +1437,7 @@ static void compare_file(uint64_t number)
 
 static void make_file(void)
 {
-    uint32_t kind = below(720);
+    uint32_t kind = below(780);
 
     if (kind < 2)
         make_long();
@@ -1074,8 +1463,12 @@ static void make_file(void)
         make_passed_over();
     else if (kind < 700)
         make_values_settled();
-    else
+    else if (kind < 720)
         make_one_a_round();
+    else
+        make_started();
+    if (one_in(3))
+        add_starts();
     if (one_in(3))
         shuffle();
     if (one_in(4))
@@ -1095,7 +1488,8 @@ int main(int argc, char **argv)
         [11] = "11 answer buffer too short", [12] = "12 allowance too large",
         [13] = "13 bytes missing", [14] = "14 no header first", [15] = "15 a second header",
         [16] = "16 unknown tag", [17] = "17 wrong length", [18] = "18 v or n out of range",
-        [19] = "19 position out of range", [20] = "20 value above n",
+        [19] = "19 position out of range", [20] = "20 value above n", [26] = "26 starting set empty",
+        [27] = "27 second starting set of a position",
     };
     uint64_t least = argc > 1 ? strtoull(argv[1], 0, 10) : 400000, files = 0;
 
@@ -1117,7 +1511,13 @@ int main(int argc, char **argv)
     printf("  calls by reply:\n");
     for (size_t k = 0; k < 32; k++)
         if (meanings[k] || calls_by_number[k])
-            print_count(meanings[k] ? meanings[k] : "a number that 01 does not have", calls_by_number[k]);
+            print_count(meanings[k] ? meanings[k] : "a number that 01 and 02 do not have", calls_by_number[k]);
+    printf("  of the refusals, at the field of a starting set:\n");
+    for (size_t k = 0; k < 32; k++)
+        if (refused_start.by_number[k])
+            print_count(meanings[k] ? meanings[k] : "a number that 01 and 02 do not have", refused_start.by_number[k]);
+    print_count("26 where the position has a starting set already", refused_start.empty_second);
+    print_count("27 where both sets are equal", refused_start.equal_second);
     printf("  of the calls that were not refused, with such a file:\n");
     print_count("all", had.calls);
     print_count("an empty clause", had.empty_clause);
@@ -1127,6 +1527,18 @@ int main(int argc, char **argv)
     print_count("an empty set", had.empty_set);
     print_count("a full set", had.full_set);
     print_count("64 positions and 32 values", had.at_limit);
+    print_count("a starting set", had.start);
+    print_count("  among them one behind a rule", had.start_behind);
+    print_count("  one at every position", had.start_everywhere);
+    print_count("  one that lacks a value between two of its own", had.start_gap);
+    print_count("  one without value 1", had.start_above_1);
+    print_count("  one of a single value", had.start_single);
+    print_count("  one of all values", had.start_full);
+    print_count("  one that settles a clause which {1..n} would not settle", had.start_settled);
+    print_count("  one that keeps its position from being live in a clause", had.start_not_live);
+    print_count("  the reply is PLAN", had.start_plan);
+    print_count("  the reply is UNDECIDED", had.start_undecided);
+    print_count("  there were splits", had.start_split);
     printf("  of the calls that were not refused, by the rounds of the first box:\n");
     print_count("one", rounds.one);
     print_count("two", rounds.two);

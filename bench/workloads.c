@@ -101,6 +101,14 @@ void write_named(struct rule_file *file, uint32_t position)
     write_length(file);
 }
 
+void write_start(struct rule_file *file, uint32_t position, uint32_t set)
+{
+    write_head(file, 4);
+    write_byte(file, position);
+    write_set(file, set);
+    write_length(file);
+}
+
 /* ---- queens ---- */
 
 /* Whether a queen attacks the field that lies `down` rows below it (at least 1) and `aside` columns
@@ -260,6 +268,80 @@ void make_ladder_random(struct rule_file *file, int clauses, int seed)
     }
 }
 
+/* ---- relays that are fitted at some channels only ---- */
+
+enum { FITTED = 3 };
+
+/* a set of three relays at random */
+static uint32_t any_fitted(struct random *random)
+{
+    uint32_t set = 0;
+
+    for (int left = FITTED; left > 0;) {
+        uint32_t relay = value_alone(1 + random_below(random, RACK_VALUES));
+
+        if (set & relay)
+            continue;
+        set |= relay;
+        left--;
+    }
+    return set;
+}
+
+/* one of the relays of a set of three, alone */
+static uint32_t one_fitted(struct random *random, uint32_t set)
+{
+    for (uint32_t left = random_below(random, FITTED); left > 0; left--)
+        set &= set - 1;
+    return set & -set;
+}
+
+/* "Not this relay of p and that relay of q", for channels and their relays at random. A rule names a relay
+   that is fitted, so that none is met from the start. */
+static void write_pairs(struct rule_file *file, struct random *random, const uint32_t *fitted, int pairs)
+{
+    for (; pairs > 0; pairs--) {
+        uint32_t p = 1 + random_below(random, RACK_POSITIONS), q = 1 + random_below(random, RACK_POSITIONS - 1);
+
+        if (q >= p)
+            q++;
+        write_clause(file);
+        write_atom(file, p, ~one_fitted(random, fitted[p - 1]));
+        write_atom(file, q, ~one_fitted(random, fitted[q - 1]));
+    }
+}
+
+/* The relays of all channels stand behind the header, and the pairs behind these. */
+static void make_fitted_by(struct rule_file *file, int clauses, int pairs, int seed)
+{
+    struct random random = { (uint64_t)seed };
+    uint32_t fitted[RACK_POSITIONS];
+
+    write_header(file, RACK_POSITIONS, RACK_VALUES);
+    for (uint32_t p = 1; p <= RACK_POSITIONS; p++) {
+        fitted[p - 1] = any_fitted(&random);
+        if (clauses) {
+            write_clause(file);
+            write_atom(file, p, fitted[p - 1]);
+        } else {
+            write_start(file, p, fitted[p - 1]);
+        }
+    }
+    write_pairs(file, &random, fitted, pairs);
+}
+
+void make_fitted(struct rule_file *file, int pairs, int seed)
+{
+    make_fitted_by(file, 0, pairs, seed);
+}
+
+/* Both files have the same bytes but for 64 tags, the same plans, and the same splits and dead ends: where a
+   clause says it, the first round cuts the rooms that are cut from the start where a starting set does. */
+void make_fitted_clauses(struct rule_file *file, int pairs, int seed)
+{
+    make_fitted_by(file, 1, pairs, seed);
+}
+
 /* ---- clauses at random ---- */
 
 /* Adds a clause of three different positions, each with `size` of the values 1 to n. */
@@ -352,7 +434,8 @@ void make_deep(struct rule_file *file, int positions, int unused)
 
 /* ---- the table ---- */
 
-/* "At random, 64 x 2, 265, no. 1" has 64 positions of two values, 265 clauses and the seed 1. */
+/* "At random, 64 x 2, 265, no. 1" has 64 positions of two values, 265 clauses and the seed 1; "3 of 32 fitted,
+   420, no. 1" has 420 pairs and the seed 1. */
 const struct workload workloads[] = {
     { "queens 8", make_queens, 8, QUEENS_PLAIN, LARGEST_ALLOWANCE, 1 },
     { "queens 9", make_queens, 9, QUEENS_PLAIN, LARGEST_ALLOWANCE, 0 },
@@ -390,6 +473,11 @@ const struct workload workloads[] = {
     { "half-wired, torus queens 8", make_half_wired, 8, QUEENS_TORUS, LARGEST_ALLOWANCE, 1 },
     { "half-wired, torus queens 10", make_half_wired, 10, QUEENS_TORUS, LARGEST_ALLOWANCE, 1 },
     { "half-wired, torus queens 12", make_half_wired, 12, QUEENS_TORUS, LARGEST_ALLOWANCE, 0 },
+
+    { "3 of 32 fitted, 420, no. 1", make_fitted, 420, 1, LARGEST_ALLOWANCE, 1 },
+    { "3 of 32 by clauses, 420, no. 1", make_fitted_clauses, 420, 1, LARGEST_ALLOWANCE, 1 },
+    { "3 of 32 fitted, 420, no. 2", make_fitted, 420, 2, LARGEST_ALLOWANCE, 0 },
+    { "3 of 32 by clauses, 420, no. 2", make_fitted_clauses, 420, 2, LARGEST_ALLOWANCE, 0 },
 
     { "sudoku 4x4, empty", make_sudoku, 4, 0, LARGEST_ALLOWANCE, 1 },
     { "sudoku 4x4, 4 given", make_sudoku, 4, 4, LARGEST_ALLOWANCE, 1 },

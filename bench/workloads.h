@@ -47,6 +47,8 @@ void write_atom(struct rule_file *file, uint32_t position, uint32_t set);
 /* starts an equality that names no position, and adds a position to it */
 void write_equality(struct rule_file *file, uint32_t set);
 void write_named(struct rule_file *file, uint32_t position);
+/* the starting set of a position */
+void write_start(struct rule_file *file, uint32_t position, uint32_t set);
 
 /* ---- the workloads ---- */
 
@@ -56,6 +58,10 @@ enum queens { QUEENS_PLAIN, QUEENS_SUPER, QUEENS_TORUS };
 void make_queens(struct rule_file *file, int size, int kind);
 /* A rack of 64 channels of which no rule names the first 32; `size` queens stand on the next ones. */
 void make_half_wired(struct rule_file *file, int size, int kind);
+/* A rack of 64 channels and 32 relays, of which each channel has three fitted, with `pairs` rules that each keep
+   two channels from taking a certain relay each. The relays fitted are told by starting sets or by clauses. */
+void make_fitted(struct rule_file *file, int pairs, int seed);
+void make_fitted_clauses(struct rule_file *file, int pairs, int seed);
 /* A sudoku of `size` times `size` cells (4, 6 or 8), with `givens` cells of a solution given. */
 void make_sudoku(struct rule_file *file, int size, int givens);
 /* A ladder rack where each position drives the next one up, with the fields in that order or against

@@ -1,9 +1,11 @@
 /* The yardstick: see yardstick.h. The section names in the comments are those of document 01; step 4 is
-   the one of document 02 (R-2), and so are the place of a NONE (R-3) and the rounds (R-10).
+   the one of document 02 (R-2), and so are the place of a NONE (R-3), the starting sets (R-6) and the rounds
+   (R-10).
 
    The rules are parsed once, into arrays: a clause into its positions, each with the union of that
-   position's sets; an equality into M and its positions, each once. The search then never looks at the
-   file again. Apart from that it goes by the steps as they are written. */
+   position's sets; an equality into M and its positions, each once. A starting set is no rule: it becomes
+   the room that its position has in the first box, wherever its field stands. The search then never looks at
+   the file again. Apart from that it goes by the steps as they are written. */
 #include "yardstick.h"
 
 #include <assert.h>
@@ -15,10 +17,10 @@ enum {
     SHORTEST_ANSWER = 64,
     LARGEST_ALLOWANCE = 1000000,
     HEAD = 3,  /* bytes of a tag and a length */
-    ATOM = 5   /* bytes of an atom */
+    ATOM = 5   /* bytes of an atom, and of a starting set's content */
 };
 
-/* the replies of 01's table */
+/* the replies of 01's table, and of 02 */
 enum {
     PLAN = 0,
     NONE = 1,
@@ -33,7 +35,9 @@ enum {
     WRONG_LENGTH = 17,
     WRONG_LIMITS = 18,
     WRONG_POSITION = 19,
-    WRONG_SET = 20
+    WRONG_SET = 20,
+    EMPTY_START = 26,
+    SECOND_START = 27
 };
 
 /* ---- the rules, parsed ---- */
@@ -58,6 +62,8 @@ static uint32_t places[LONGEST_INPUT / HEAD]; /* of each rule, the offset of its
 static struct part parts[LONGEST_INPUT];
 static uint32_t rule_count, part_count;
 static uint32_t v, n;
+static uint32_t starting[POSITIONS]; /* of each position, its starting set: {1..n} where no field gives one */
+static uint64_t given;               /* bit i: a field gives the starting set of position i */
 
 static uint32_t four_bytes(const uint8_t *at)
 {
@@ -132,6 +138,51 @@ static int parse_equality(const uint8_t *content, size_t length)
     return 0;
 }
 
+/* Parses a header's bytes: v and n, and every position starts at {1..n}. Answers 0, or the number of its
+   fault. */
+static int parse_header(const uint8_t *content)
+{
+    v = content[0];
+    n = content[1];
+    if (v < 1 || v > POSITIONS || n < 1 || n > VALUES)
+        return WRONG_LIMITS;
+    given = 0;
+    for (uint32_t i = 0; i < v; i++)
+        starting[i] = full_set();
+    return 0;
+}
+
+/* Parses a starting set's bytes, a position and its set. Answers 0, or the number of its first fault. */
+static int parse_start(const uint8_t *content)
+{
+    uint32_t position = content[0];
+    uint32_t set = four_bytes(content + 1);
+
+    if (position == 0 || position > v)
+        return WRONG_POSITION;
+    if (set & ~full_set())
+        return WRONG_SET;
+    if (set == 0)
+        return EMPTY_START;
+    position--;
+    if (given >> position & 1)
+        return SECOND_START;
+    given |= (uint64_t)1 << position;
+    starting[position] = set;
+    return 0;
+}
+
+/* Whether a field of this tag may have this length. */
+static int length_is_right(int tag, size_t length)
+{
+    switch (tag) {
+    case 1: return length == 2;
+    case 2: return length % ATOM == 0;
+    case 3: return length >= 4 && length <= 4 + POSITIONS;
+    default: return length == ATOM;
+    }
+}
+
 /* Parses the whole file. Answers 0, or the number of the first fault, with its field at *place. */
 static int parse(const uint8_t *input, size_t input_len, uint64_t *place)
 {
@@ -144,7 +195,7 @@ static int parse(const uint8_t *input, size_t input_len, uint64_t *place)
         size_t left = input_len - at;
         const uint8_t *content = input + at + HEAD;
         size_t length;
-        int tag, length_is_right, fault = 0;
+        int tag, fault;
 
         *place = at;
         if (left < HEAD)
@@ -154,27 +205,20 @@ static int parse(const uint8_t *input, size_t input_len, uint64_t *place)
             return NO_HEADER;
         if (at != 0 && tag == 1)
             return SECOND_HEADER;
-        if (tag < 1 || tag > 3)
+        if (tag < 1 || tag > 4)
             return UNKNOWN_TAG;
         length = (size_t)input[at + 1] << 8 | input[at + 2];
-        length_is_right = tag == 1   ? length == 2
-                          : tag == 2 ? length % ATOM == 0
-                                     : length >= 4 && length <= 4 + POSITIONS;
-        if (!length_is_right)
+        if (!length_is_right(tag, length))
             return WRONG_LENGTH;
         if (left - HEAD < length)
             return BYTES_MISSING;
-        if (tag != 1)
+        if (tag == 2 || tag == 3)
             places[rule_count] = (uint32_t)at;
-        if (tag == 1) {
-            v = content[0];
-            n = content[1];
-            if (v < 1 || v > POSITIONS || n < 1 || n > VALUES)
-                return WRONG_LIMITS;
-        } else if (tag == 2) {
-            fault = parse_clause(content, length);
-        } else {
-            fault = parse_equality(content, length);
+        switch (tag) {
+        case 1: fault = parse_header(content); break;
+        case 2: fault = parse_clause(content, length); break;
+        case 3: fault = parse_equality(content, length); break;
+        default: fault = parse_start(content);
         }
         if (fault)
             return fault;
@@ -274,7 +318,8 @@ static enum look look_at_equality(const struct rule *rule, struct box *box)
     return result;
 }
 
-/* Step 1: rounds over all fields in file order, each room cut at once, until a round changes nothing.
+/* Step 1: rounds over all fields in file order, each room cut at once, until a round changes nothing. A
+   starting set changes nothing and is never dead (R-6), so the rules are all that a round goes through.
    Answers whether the box is alive; where it is not, first_dead is the rule first found dead. A round counts
    when it starts, so the last one does too; the box is the first one as long as there is no split. */
 static int shrink(struct box *box)
@@ -523,7 +568,7 @@ void yardstick_plan(const uint8_t *input, size_t input_len, uint8_t *answer, siz
     most_in_call = 0;
 #endif
     for (uint32_t i = 0; i < POSITIONS; i++)
-        start.rooms[i] = i < v ? full_set() : 0;
+        start.rooms[i] = i < v ? starting[i] : 0;
     *number = (uint64_t)search(start);
     *splits = split_count;
     *dead_ends = dead_end_count;
@@ -547,7 +592,7 @@ uint64_t yardstick_rounds_most(const uint8_t *input, size_t input_len)
 
     if (input_len > LONGEST_INPUT || parse(input, input_len, &place) != 0)
         return 0;
-    for (uint32_t i = 0; i < v; i++) /* every room starts with n values */
-        most += n - 1;
+    for (uint32_t i = 0; i < v; i++) /* every room starts with its starting set */
+        most += (uint32_t)__builtin_popcount(starting[i]) - 1;
     return most;
 }

@@ -1,4 +1,4 @@
-/* The yardstick: a planner in plain C, written from documents 01 and 02 (R-2, R-3, R-8 and R-10) alone, to
+/* The yardstick: a planner in plain C, written from documents 01 and 02 (R-2, R-3, R-6, R-8 and R-10) alone, to
    compare the proved planner with, in what it answers and in how long it takes. Nothing of it is proved. */
 #ifndef YARDSTICK_H
 #define YARDSTICK_H
@@ -13,8 +13,8 @@ void yardstick_plan(const uint8_t *input, size_t input_len, uint8_t *answer, siz
                     uint64_t allowance, uint64_t *number, uint64_t *place, uint64_t *splits,
                     uint64_t *dead_ends, uint64_t *rounds);
 
-/* The most rounds of a file, as oarloom_rounds_most has them: v times n - 1, plus 1, and 0 where the file is
-   refused. Parses the file into the same arrays. */
+/* The most rounds of a file, as oarloom_rounds_most has them: the sum over positions of starting size less one,
+   plus one, and 0 where the file is refused. Parses the file into the same arrays. */
 uint64_t yardstick_rounds_most(const uint8_t *input, size_t input_len);
 
 #ifdef YARDSTICK_COUNTS

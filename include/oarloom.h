@@ -55,18 +55,21 @@ extern "C" {
  *   13   REFUSED    bytes are missing: a field's head (3 bytes) or its content is cut off
  *   14   REFUSED    the file does not start with a header: it is empty, or its first tag is not 1
  *   15   REFUSED    a second header
- *   16   REFUSED    a tag that is not 1, 2 or 3
- *   17   REFUSED    a length that does not fit the tag: a header has 2 bytes of content, a clause a
- *                   multiple of 5, an equality 4 to 68
+ *   16   REFUSED    a tag that is not 1, 2, 3 or 4
+ *   17   REFUSED    a length that does not fit the tag: a header (tag 1) has 2 bytes of content, a
+ *                   clause (2) a multiple of 5, an equality (3) 4 to 68, a starting set (4) 5
  *   18   REFUSED    the header's number of channels is not 1 to 64, or that of relays not 1 to 32
  *   19   REFUSED    a position that is 0 or above the number of channels
  *   20   REFUSED    a set that has a value above the number of relays
+ *   26   REFUSED    a starting set that is empty
+ *   27   REFUSED    a second starting set for its position, equal to the first or not
  *
  * No other number comes back. A refusal is every number of 10 or more: test for that, and not for
  * the last of this table, since the table may grow.
  *
- * 10, 11 and 12 are tested first, in this order. 13 to 20 are faults of the file, and the first one
- * that is found is told, from the front of the file to its end.
+ * 10, 11 and 12 are tested first, in this order. 13 to 20, 26 and 27 are faults of the file, and the
+ * first one that is found is told, from the front of the file to its end; in one starting set 19,
+ * 20, 26 and 27 in this order.
  */
 enum oarloom_number {
     OARLOOM_PLAN = 0,
@@ -82,12 +85,13 @@ enum oarloom_number {
  * All five cells are written, at every reply:
  *
  *   *number     the number of the reply, as listed above
- *   *place      13 to 20: where the field at fault starts, the index of its tag byte in `input`,
+ *   *place      13 or more: where the field at fault starts, the index of its tag byte in `input`,
  *               which is 0 for the header. 1 with 0 splits: where the field starts that was first
  *               found to be met by nothing that the rules leave open, 5 or more. 0 at every other
  *               reply, 1 with splits among them
  *   *splits     0, 1 and 2: the splits that the search made, never more than `allowance`, and equal
- *               to it at 2; 0 at a refusal
+ *               to it at 2; and less than the number of ways to give each channel one of the relays
+ *               that it may start with. 0 at a refusal
  *   *dead_ends  0, 1 and 2: the dead ends that it met; 0 at a refusal
  *   *rounds     0, 1 and 2: the rounds of shrinking that the first box took, before any split: each
  *               goes once through all fields in the order of the file, and the last one, which
@@ -95,10 +99,11 @@ enum oarloom_number {
  *               oarloom_rounds_most answers for this input; 0 at a refusal
  *
  * Number 0 writes answer[0] to answer[v - 1], where v, the number of channels, is input[3]:
- * answer[i] is the relay of channel i + 1, from 1 to n, and n is input[4]. Bytes from answer[v] on
- * stay as they were. At every other number all bytes of `answer` stay as they were. What the cells
- * and the buffer held before plays no part in the reply. Nothing but the five cells and these bytes
- * of the buffer is written.
+ * answer[i] is the relay of channel i + 1, from 1 to n, and n is input[4]; where the file has a
+ * starting set for the channel, the relay is in that. Bytes from answer[v] on stay as they were. At
+ * every other number all bytes of `answer` stay as they were. What the cells and the buffer held
+ * before plays no part in the reply. Nothing but the five cells and these bytes of the buffer is
+ * written.
  *
  * 0 splits may be allowed: then only what needs no split is decided. The same arguments give the
  * same reply at every call.
@@ -114,9 +119,12 @@ void oarloom_plan(const uint8_t *input, size_t input_length,
  * buffer and the allowance. It is known before the work begins, from a check of the file alone, and
  * writes no memory.
  *
- * For a file that is not refused it is v * (n - 1) + 1, from 1 to 1985, where v and n are input[3] and
- * input[4]: every round but the last takes a relay away from some channel, and one stays at each. Some
- * files take so many. 0 for an input that is refused by 10 or by 13 to 20.
+ * For a file that is not refused it is one more than the sum over channels of the number of relays that
+ * the channel may start with, less one: every round but the last takes a relay away from some channel,
+ * and one stays at each. A channel starts with the relays of its starting set, and with 1 to n where it
+ * has none. So the answer is at most v * (n - 1) + 1, just that for a file without a starting set, and
+ * from 1 to 1985, where v and n are input[3] and input[4]. Some files take so many. 0 for an input that
+ * is refused by 10 or for a fault of the file.
  */
 uint64_t oarloom_rounds_most(const uint8_t *input, size_t input_length);
 

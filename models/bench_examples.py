@@ -1,9 +1,10 @@
 # Makes the stored output of `bench_examples`: 01's examples, files that tell readings of the place of a NONE (02, R-3),
-# of the rounds (02, R-10) and of step 4 (02, R-2) apart, and the ceilings, with the replies of the model. 01's "bytes
+# of the rounds (02, R-10), of step 4 (02, R-2) and of starting sets (02, R-6) apart, and the ceilings, with the replies
+# of the model. 01's "bytes
 # from v on stay; all other replies write nothing" is the word `kept` at the end of each line. Behind the line of a call
 # stands what the program prints for the file, in which the rounds are not.
 import scope
-from writing import clause, equality, field, header
+from writing import clause, equality, field, header, start
 
 CASE_E = header(2, 2) + equality({1, 2}, 1, 2)
 CASE_H = header(3, 3) + equality({1, 2, 3}, 1, 2, 3)
@@ -12,6 +13,14 @@ ROUND_TWO = header(2, 2) + clause((1, {2}), (2, {1})) + clause((1, {1})) + claus
 AFTER_A_SPLIT = header(2, 3) + clause((1, {1, 2, 3})) + equality({1, 2, 3}, 1, 2)
 AT_THE_BOUND = header(3, 2) + clause((2, {1}), (3, {2})) + clause((1, {1}), (2, {2})) + clause((1, {2}))
 ROUNDS_THEN_SPLIT = header(3, 2) + clause((1, {2})) + clause((2, {1}), (3, {1}))
+START_SPLIT = header(2, 4) + start(1, {2, 4}) + start(2, {2, 4}) + equality({2, 4}, 1, 2)
+START_ONE_EACH = CASE_E + start(1, {1}) + start(2, {2})
+START_AT_THE_BOUND = (header(3, 4) + clause((2, {2}), (3, {4})) + clause((1, {1}), (2, {4})) + clause((1, {3}))
+                      + start(1, {1, 3}) + start(2, {2, 4}) + start(3, {1, 4}))
+START_64_32 = header(64, 32) + start(64, {32})
+START_BEHIND = header(2, 3) + clause((1, {1})) + start(1, {2, 3})
+GAPS = start(1, {1, 3, 5}) + start(2, {2, 4})
+ONE_START = header(2, 2) + start(1, {1})
 # A file of 32,768 bytes: v 1, n 32, and 6552 atoms whose five bytes are all 1.
 LONGEST = header(1, 32) + field(2, bytes([1] * 5 * 6552))
 
@@ -100,6 +109,43 @@ show('named-and-not-live', header(3, 3) + clause((1, {2, 3})) + clause((1, {1}),
 show('values-settled', header(5, 3) + clause((1, {1, 2})) + clause((2, {1})) + clause((3, {2}))
      + equality({1, 2, 3}, 1, 2, 3, 4, 5))
 show('later-clause', header(3, 2) + clause((2, {1}), (3, {1})) + clause((1, {2}), (2, {2})))
+
+# Starting sets (02, R-6). They count from the start wherever they stand, and are never dead themselves.
+show('start-behind', START_BEHIND)
+show('start-in-front', header(2, 3) + start(1, {2, 3}) + clause((1, {1})))
+show('start-alone', header(2, 3) + start(2, {3}) + start(1, {2, 3}), 0)
+show('start-64-32', START_64_32, 0)
+# What is live, inside or dead is judged by the rooms inside them.
+show('start-not-live', header(2, 3) + clause((1, {1}), (2, {1})) + start(1, {2, 3}), 0)
+show('start-inside', header(3, 3) + clause((1, {2, 3})) + clause((1, {2, 3}), (2, {1})) + start(1, {2, 3}), 0)
+show('start-outside-the-equality', header(2, 3) + clause((2, {1, 2})) + equality({1, 2}, 1, 2) + start(1, {3}))
+show('start-without-a-value', CASE_H + start(1, {1, 2}) + start(2, {1, 2}) + start(3, {1, 2}))
+# Splits are of starting values alone, and never as many as the product of the starting sizes.
+show('start-split', START_SPLIT)
+show('start-split-allowance-0', START_SPLIT, 0)
+show('start-l', header(3, 4) + b''.join(clause((2, {x}), (3, {y})) for x in (2, 4) for y in (2, 4))
+     + start(2, {2, 4}) + start(3, {2, 4}))
+show('start-one-value-each', START_ONE_EACH, 0)
+show_most('start-most-one-value-each', START_ONE_EACH)
+show('start-rounds-at-the-bound', START_AT_THE_BOUND, 0)
+show_most('start-most-at-the-bound', START_AT_THE_BOUND)
+# The special kind, judged by starting sets with gaps, with v splits allowed.
+show('start-gaps-plan', header(2, 5) + clause((1, {1, 3}), (2, {4})) + clause((1, {3, 5}), (2, {2})) + GAPS, 2)
+show('start-gaps-none', header(2, 5) + clause((1, {1}), (2, {2})) + clause((1, {1, 3}), (2, {4})) + clause((1, {5}))
+     + GAPS, 2)
+# The most rounds.
+show_most('start-most-64-32', START_64_32)
+show_most('start-most-behind', START_BEHIND)
+show_most('start-most-26', header(2, 2) + start(1, set()))
+show_most('start-most-27', ONE_START + start(1, {1}))
+# What is refused in a starting set, and in a second one for the same position.
+show('start-19-before-20', header(2, 2) + start(3, {3}))
+show('start-17', header(2, 2) + field(4, b'\x01\x00\x00\x00\x01\x00'))
+show('start-13', header(2, 2) + start(3, {1})[:-1])
+show('start-26-before-27', ONE_START + start(1, set()))
+show('start-27-same-set', ONE_START + start(1, {1}))
+show('start-27-another-set', ONE_START + start(1, {2}))
+show('start-20-before-27', ONE_START + start(1, {3}))
 
 # What is refused in a file, and what is not.
 show('empty-input', b'')

@@ -70,10 +70,12 @@ def equality_words(equality):
             f'{set_words(equality.values)}{remarks(notes)}')
 
 
-# Any field.
+# Any field. A starting set counts from the start on, wherever its field stands (R-6).
 def field_words(field):
     if isinstance(field, scope.Header):
         return f'header: positions 1 to {field.v}, values 1 to {field.n}'
+    if isinstance(field, scope.Start):
+        return f'starting set: position {field.position} takes a value of {set_words(field.values)} and no other'
     return clause_words(field) if isinstance(field, scope.Clause) else equality_words(field)
 
 
@@ -153,6 +155,20 @@ def equality_verdict(equality, values):
     return f'NOT met: the values taken are {set_words(taken)}, and not exactly {set_words(equality.values)}'
 
 
+# Whether a position's value is in its starting set.
+def start_verdict(start, values):
+    if scope.meets(start, values):
+        return f'met: {takes(start.position, values)}, in {set_words(start.values)}'
+    return f'NOT met: {takes(start.position, values)}, not in {set_words(start.values)}'
+
+
+# Why a rule is met, or why it is not.
+def rule_verdict(rule, values):
+    if isinstance(rule, scope.Clause):
+        return clause_verdict(rule, values)
+    return equality_verdict(rule, values) if isinstance(rule, scope.Equality) else start_verdict(rule, values)
+
+
 # Holds a plan against every rule, as the rule was read. Gives what is wrong.
 def check_plan(header, rules, values):
     if len(values) != header.v:
@@ -163,8 +179,7 @@ def check_plan(header, rules, values):
         return wrong
     print('the plan:', *values)
     for rule in rules:
-        verdict = clause_verdict if isinstance(rule, scope.Clause) else equality_verdict
-        print(f'byte {rule.place}: {verdict(rule, values)}')
+        print(f'byte {rule.place}: {rule_verdict(rule, values)}')
         if not scope.meets(rule, values):
             wrong.append(f'the rule at byte {rule.place} is not met')
     print('the plan does NOT meet every rule' if wrong else 'the plan meets every rule')
@@ -184,15 +199,16 @@ def check_counts(number, splits, dead_ends):
     return wrong
 
 
-# Tests what holds for the place of any NONE (R-3): there is one exactly if there is no split, and a rule stands there.
+# Tests what holds for the place of any NONE (R-3): there is one exactly if there is no split, and a clause or an equality
+# stands there, since a starting set is never dead (R-6).
 def check_place(rules, splits, place):
     if splits == 0 and place == 0:
         return ['NONE with no split has a place, and the reply has none']
     wrong = []
     if splits > 0 and place > 0:
         wrong.append(f'NONE with a split has no place, and the reply has {place}')
-    if place > 0 and not any(rule.place == place for rule in rules):
-        wrong.append(f'no rule starts at byte {place}')
+    if place > 0 and not any(rule.place == place for rule in rules if not isinstance(rule, scope.Start)):
+        wrong.append(f'no clause and no equality starts at byte {place}')
     return wrong
 
 

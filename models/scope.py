@@ -1,4 +1,4 @@
-# A model of documents 01 and 02 (R-2, R-3, R-8 and R-10), written from their text alone: reading a rule file, what
+# A model of documents 01 and 02 (R-2, R-3, R-6, R-8 and R-10), written from their text alone: reading a rule file, what
 # rules mean, the search step for step, the reply, and what the program prints. A set is a Python set of the values in
 # it.
 from collections import namedtuple
@@ -22,6 +22,8 @@ Reply = namedtuple('Reply', 'number place splits dead_ends rounds values')
 Header = namedtuple('Header', 'place v n')
 Clause = namedtuple('Clause', 'place atoms')
 Equality = namedtuple('Equality', 'place values positions')
+# The starting set of a position (R-6).
+Start = namedtuple('Start', 'place position values')
 # "The position's value is in this set."
 Atom = namedtuple('Atom', 'position values')
 
@@ -53,14 +55,14 @@ def set_at(content, at):
     return set_of(number)
 
 
-# The tag of a field: the first is 1, and a later one is 2 or 3.
+# The tag of a field: the first is 1, and a later one is 2, 3 or 4.
 def check_tag(tag, place):
     if place == 0 and tag != 1:
         raise Refused(14, place, f'the first tag is {tag}, and not 1')
     if place > 0 and tag == 1:
         raise Refused(15, place, 'a second header: tag 1 comes first and once')
-    if tag not in (1, 2, 3):
-        raise Refused(16, place, f'tag {tag} is none of 1, 2, 3')
+    if tag not in (1, 2, 3, 4):
+        raise Refused(16, place, f'tag {tag} is none of 1, 2, 3, 4')
 
 
 # The length that a tag asks for.
@@ -71,6 +73,8 @@ def check_length(tag, length, place):
         raise Refused(17, place, f'a clause of length {length}, which is not 5 times a number of atoms')
     if tag == 3 and not 4 <= length <= 68:
         raise Refused(17, place, f'an equality of length {length}, which has to be 4 to 68')
+    if tag == 4 and length != 5:
+        raise Refused(17, place, f'a starting set of length {length}, which has to be 5')
 
 
 # One field: its tag and its content. In order: a head that is cut, tag, length, bytes missing.
@@ -129,11 +133,24 @@ def read_equality(content, place, header):
     return Equality(place, values, positions)
 
 
+# A starting set (R-6): a position byte and a four-byte set. In order: 19, 20, 26, 27. The positions that had their
+# starting set before are given.
+def read_start(content, place, header, had):
+    position, values = content[0], set_at(content, 1)
+    check_position(position, header, place, 'the position there')
+    check_set(values, header, place, f'the starting set of position {position}')
+    if not values:
+        raise Refused(26, place, f'the starting set of position {position} is empty')
+    if position in had:
+        raise Refused(27, place, f'a second starting set for position {position}')
+    return Start(place, position, values)
+
+
 # The fields one after another, the header first, up to the first fault, which is raised.
 def fields(file):
     if len(file) == 0:
         raise Refused(14, 0, 'the input is empty')
-    header, place = None, 0
+    header, had, place = None, set(), 0
     while place < len(file):
         tag, content = read_field(file, place)
         if tag == 1:
@@ -141,15 +158,28 @@ def fields(file):
             yield header
         elif tag == 2:
             yield read_clause(content, place, header)
-        else:
+        elif tag == 3:
             yield read_equality(content, place, header)
+        else:
+            start = read_start(content, place, header, had)
+            had.add(start.position)
+            yield start
         place += 3 + len(content)
 
 
-# A whole file: its header and its rules.
+# A whole file: its header and its rules, among which the starting sets are.
 def read(file):
     header, *rules = fields(file)
     return header, rules
+
+
+# The starting set of every position, by its number: what its field says, wherever that stands, and {1..n} where there
+# is none (R-6).
+def starting_sets(header, rules):
+    full = frozenset(range(1, header.n + 1))
+    sets = {position: full for position in range(1, header.v + 1)}
+    sets.update((rule.position, rule.values) for rule in rules if isinstance(rule, Start))
+    return sets
 
 
 # ---- What rules mean
@@ -164,18 +194,24 @@ def taken(positions, assignment):
     return {assignment[position - 1] for position in positions}
 
 
-# An assignment meets a clause if it does so for some atom, and an equality if the values taken are exactly M.
+# An assignment meets a clause if it does so for some atom, an equality if the values taken are exactly M, and a
+# starting set if the position's value is in it (R-6).
 def meets(rule, assignment):
     if isinstance(rule, Clause):
         return any(meets_atom(atom, assignment) for atom in rule.atoms)
-    return taken(rule.positions, assignment) == rule.values
+    if isinstance(rule, Equality):
+        return taken(rule.positions, assignment) == rule.values
+    return assignment[rule.position - 1] in rule.values
 
 
-# The clauses that a rule means the same as, each a list of atoms. Those of an equality: for each named position
-# "it is in M"; then for each value m in M, rising, "one of the named positions is in {m}".
+# The clauses that a rule is gone through as, each a list of atoms. Those of an equality: for each named position
+# "it is in M"; then for each value m in M, rising, "one of the named positions is in {m}". A starting set has none:
+# the rooms lie inside it from the start, so that in a round it changes nothing and is never dead (R-6).
 def clauses_of(rule):
     if isinstance(rule, Clause):
         return [rule.atoms]
+    if isinstance(rule, Start):
+        return []
     inside = [[Atom(position, rule.values)] for position in rule.positions]
     each = [[Atom(position, frozenset([m])) for position in rule.positions] for m in sorted(rule.values)]
     return inside + each
@@ -241,14 +277,13 @@ def halves(rooms, position):
     return {**rooms, position: smallest}, {**rooms, position: rooms[position] - smallest}
 
 
-# Steps 1 to 4 from the box of full rooms on. 01's search calls itself for each half; here the boxes that are still
+# Steps 1 to 4 from the box of the starting sets on. 01's search calls itself for each half; here the boxes that are still
 # to be searched wait in a list, the next one last, so that the second half waits until the first gave no plan. A NONE
 # with no split has met one box, the first, and has the place where that one is dead; any other has place 0 (R-3). The
 # rounds are those of the first box, the one that is shrunk before any split (R-10).
 def search(header, rules, allowance):
     clauses = [(rule.place, united(atoms)) for rule in rules for atoms in clauses_of(rule)]
-    full = frozenset(range(1, header.n + 1))
-    waiting = [{position: full for position in range(1, header.v + 1)}]
+    waiting = [starting_sets(header, rules)]
     splits = dead_ends = 0
     while waiting:
         rooms, dead_at, rounds_here = shrink(clauses, waiting.pop())
@@ -301,7 +336,7 @@ def rounds_most(file):
         header, rules = read(file)
     except Refused:
         return 0
-    return sum(header.n - 1 for position in range(header.v)) + 1
+    return sum(len(values) - 1 for values in starting_sets(header, rules).values()) + 1
 
 
 # A reply as the lines that the program prints. The place of a NONE that has one is a fourth word (R-3).

@@ -1,14 +1,17 @@
-# Makes the expected output of `small_files` from the text of 01 and of 02's R-2, R-3 and R-10 alone: the same files by
-# the same generator, and a model of the refusals, of the meaning and of the search on Python's sets of values.
+# Makes the expected output of `small_files` from the text of 01 and of 02's R-2, R-3, R-6 and R-10 alone: the same files
+# by the same generator, and a model of the refusals, of the meaning and of the search on Python's sets of values.
 #
 # Every call of the planner that the program makes is made here too, in the same order, and the number, the place,
 # the splits, the dead ends and the rounds of each go into the checksum one by one. So the calls are compared one for
 # one, and not by their totals alone, in which two errors could cancel.
 import sys
+from functools import cache
 from itertools import count, product
+from math import prod
 
 P = 2147483647
-SIZES = [5329, 4641, 3136, 4380, 8000, 5456, 6000, 3000, 3000, 1000]
+SIZES = [5329, 4641, 3136, 4380, 8000, 5456, 3822, 1680, 6000, 3000, 3000, 1000, 3000, 3000, 1000]
+SYSTEMATIC = 8
 if len(sys.argv) > 1: SIZES = [int(x) for x in sys.argv[1].split(',')]
 STATS = len(sys.argv) > 2
 
@@ -45,6 +48,9 @@ def equality_no(mask, number, v):
         content += bytes([number % v + 1]); number //= v
     return field(3, content)
 
+# The starting set with a number: its position, then its set, which is not empty.
+def start_no(number, v): return field(4, atom(number % v + 1, number // v + 1))
+
 def systematic(family, k):
     if family == 0:
         a, b = digits(k, [73]); return header(2, 2) + clause_no(a, 2, 4) + clause_no(b, 2, 4)
@@ -58,53 +64,87 @@ def systematic(family, k):
         s, l, a = digits(k, [8, 40]); return header(3, 3) + equality_no(s, l, 3) + clause_no(a, 3, 8)
     if family == 5:
         s, l = digits(k, [16]); return header(4, 4) + equality_no(s, l, 4)
+    if family == 6:
+        a, b = digits(k, [273]); return header(2, 3) + clause_no(a, 2, 8) + start_no(b, 2)
+    if family == 7:
+        b, s, l = digits(k, [14, 8]); return header(2, 3) + start_no(b, 2) + equality_no(s, l, 2)
 
-def drawn_set(src, n, density):
+# A set from the bits of the values n down to 1.
+def set_by(n, bit):
     mask = 0
-    for _ in range(n): mask = mask * 2 + (1 if src.draw(4) < density else 0)
+    for value in range(n, 0, -1): mask = mask * 2 + (1 if bit(value) else 0)
     return mask
 
-def drawn_field(src, v, n, equalities, atoms, density):
-    if src.draw(8) < equalities:
-        mask = drawn_set(src, n, density)
-        count = src.draw(v + 1)
-        return field(3, mask.to_bytes(4, 'big') + bytes([src.draw(v) + 1 for _ in range(count)]))
+# What files are drawn: how many of eight fields are equalities and starting sets; in how many of four draws a value is
+# put into a set or into a starting set, and a set is {1..b} with at most one value changed.
+class Shape:
+    def __init__(self, v, n, fields, equalities=0, atoms=1, density=2, starts=0, fitted=2, ladders=0):
+        self.v, self.n, self.fields, self.equalities, self.atoms = v, n, fields, equalities, atoms
+        self.density, self.starts, self.fitted, self.ladders = density, starts, fitted, ladders
+
+def drawn_set(src, shape):
+    if src.draw(4) < shape.ladders:
+        b, odd = src.draw(shape.n + 1), src.draw(2 * shape.n + 1)
+        return set_by(shape.n, lambda value: (value <= b) != (value == odd))
+    return set_by(shape.n, lambda value: src.draw(4) < shape.density)
+
+# A starting set, of one value at least; nothing where its position has one already.
+def drawn_start(src, shape, had):
+    p, sure = src.draw(shape.v) + 1, src.draw(shape.n) + 1
+    mask = set_by(shape.n, lambda value: value == sure or src.draw(4) < shape.fitted)
+    if p in had: return b''
+    had.add(p)
+    return field(4, atom(p, mask))
+
+def drawn_field(src, shape, had):
+    kind = src.draw(8)
+    if kind < shape.equalities:
+        mask = drawn_set(src, shape)
+        count = src.draw(shape.v + 1)
+        return field(3, mask.to_bytes(4, 'big') + bytes([src.draw(shape.v) + 1 for _ in range(count)]))
+    if kind < shape.equalities + shape.starts: return drawn_start(src, shape, had)
     content = b''
-    for _ in range(0 if src.draw(100) == 0 else atoms + src.draw(3)):
-        p = src.draw(v) + 1
-        content += atom(p, drawn_set(src, n, density))
+    for _ in range(0 if src.draw(100) == 0 else shape.atoms + src.draw(3)):
+        p = src.draw(shape.v) + 1
+        content += atom(p, drawn_set(src, shape))
     return field(2, content)
 
 WIDE = [(12, 2, 8), (9, 2, 8), (7, 3, 8), (6, 4, 8), (5, 5, 8), (4, 8, 8), (3, 16, 8), (2, 32, 8), (1, 32, 8), (64, 1, 3)]
+def sized(src, least_v, more_v, least_n, more_n):
+    v = least_v + src.draw(more_v); return v, least_n + src.draw(more_n)
+def shape_of(family, src):
+    if family == 8: return Shape(*sized(src, 1, 4, 1, 4), density=src.draw(3) + 1, fields=8, equalities=1)
+    if family == 9: return Shape(*sized(src, 3, 2, 2, 3), fields=10, atoms=2)
+    if family == 10: return Shape(*sized(src, 2, 3, 2, 3), fields=3, equalities=8, density=3)
+    if family == 11:
+        v, n, fields = WIDE[src.draw(10)]; return Shape(v, n, fields, equalities=2, atoms=2, density=src.draw(2) + 2)
+    if family == 12: return Shape(*sized(src, 1, 4, 2, 5), fields=8, equalities=1, starts=3)
+    if family == 13: return Shape(*sized(src, 2, 3, 3, 4), fields=9, starts=3, fitted=3, ladders=3)
+    return Shape(*sized(src, 3, 4, 8, 25), fields=10, equalities=1, starts=4, fitted=1)
 def drawn(family, src):
-    if family == 6:
-        v = src.draw(4) + 1; n = src.draw(4) + 1; density = src.draw(3) + 1; fields, equalities, atoms = 8, 1, 1
-    elif family == 7:
-        v = src.draw(2) + 3; n = src.draw(3) + 2; fields, equalities, atoms, density = 10, 0, 2, 2
-    elif family == 8:
-        v = src.draw(3) + 2; n = src.draw(3) + 2; fields, equalities, atoms, density = 3, 8, 1, 3
-    else:
-        row = src.draw(10); density = src.draw(2) + 2; v, n, fields = WIDE[row]; equalities, atoms = 2, 2
-    out = header(v, n)
-    for _ in range(src.draw(fields + 1)): out += drawn_field(src, v, n, equalities, atoms, density)
+    shape = shape_of(family, src)
+    out, had = header(shape.v, shape.n), set()
+    for _ in range(src.draw(shape.fields + 1)): out += drawn_field(src, shape, had)
     return out
 
 # ---- 01, "The rule file" and "Replies": the refusal of a file, or its rules
-def members(b): 
+@cache
+def members(b):
     m = int.from_bytes(b, 'big'); return frozenset(i + 1 for i in range(32) if m >> i & 1)
 
 def read(file):
     if not file: return ('refused', 14, 0)
-    at = 0; v = n = None; rules = []
+    at = 0; v = n = None; rules = []; had = set()
     while at < len(file):
         rest = file[at:]
         if len(rest) < 3: return ('refused', 13, at)
         tag = rest[0]
         if at == 0 and tag != 1: return ('refused', 14, 0)
         if at > 0 and tag == 1: return ('refused', 15, at)
-        if tag not in (1, 2, 3): return ('refused', 16, at)
+        if tag not in (1, 2, 3, 4): return ('refused', 16, at)
         length = rest[1] * 256 + rest[2]
         if tag == 1 and length != 2 or tag == 2 and length % 5 or tag == 3 and not 4 <= length <= 68: return ('refused', 17, at)
+        if tag == 4 and length != 5: return ('refused', 17, at)
         if len(rest) - 3 < length: return ('refused', 13, at)
         c = rest[3:3 + length]
         if tag == 1:
@@ -118,6 +158,14 @@ def read(file):
                 if s and max(s) > n: return ('refused', 20, at)
                 atoms.append((p, s))
             rules.append(('clause', atoms, at))
+        elif tag == 4:
+            p, s = c[0], members(c[1:])
+            if not 1 <= p <= v: return ('refused', 19, at)
+            if s and max(s) > n: return ('refused', 20, at)
+            if not s: return ('refused', 26, at)
+            if p in had: return ('refused', 27, at)
+            had.add(p)
+            rules.append(('start', p, s, at))
         else:
             s = members(c[:4])
             if s and max(s) > n: return ('refused', 20, at)
@@ -127,26 +175,42 @@ def read(file):
         at += 3 + length
     return ('sound', v, n, rules)
 
+# ---- 02, R-6: the starting sets of positions 1 to v
+def starting(v, n, rules):
+    given = {r[1]: r[2] for r in rules if r[0] == 'start'}
+    return [given.get(p, frozenset(range(1, n + 1))) for p in range(1, v + 1)]
+
 # ---- 01, "What rules mean"
 def met(rule, a):
     if rule[0] == 'clause': return any(a[p - 1] in s for p, s in rule[1])
     return {a[p - 1] for p in rule[2]} == rule[1]
 
-def first(v, n, rules):
-    for a in product(range(1, n + 1), repeat=v):
-        if all(met(r, a) for r in rules): return a
-    return None
+# All plans in dictionary order, which are assignments inside the starting sets.
+def plans(rooms, rules):
+    others = [r for r in rules if r[0] != 'start']
+    return (a for a in product(*map(sorted, rooms)) if all(met(r, a) for r in others))
 
-# ---- 01, "The search, step for step", with step 4 as 02 has it (R-2), the place of the field first found dead (R-3)
-# and the rounds of the first box (R-10)
+# ---- 01, demand 3: the special kind, by R-6 judged by the starting sets
+# Whether a set counts as {1..b}: with each starting value in it, all smaller starting values are in it too.
+def is_ladder(s, start):
+    return all(y in s for x in s & start for y in start if y < x)
+
+# Whether every rule is a clause, with at most one position whose united set does not count as {1..b}, or a starting set.
+def special(rooms, rules):
+    return all(r[0] == 'start' or r[0] == 'clause'
+               and sum(not is_ladder(s, rooms[p - 1]) for p, s in united(r[1]).items()) <= 1 for r in rules)
+
+# ---- 01, "The search, step for step", from the starting sets on (R-6), with step 4 as 02 has it (R-2), the place of the
+# field first found dead (R-3) and the rounds of the first box (R-10)
 def united(c):
     union = {}
     for p, s in c: union[p] = union.get(p, frozenset()) | s
     return union
 
-# A field as its place and its clauses, those of an equality in 01's order.
+# A field as its place and its clauses, those of an equality in 01's order. A starting set has none.
 def as_clauses(r):
-    if r[0] == 'clause': cs = [r[1]]
+    if r[0] == 'start': cs = []
+    elif r[0] == 'clause': cs = [r[1]]
     else: cs = [[(p, r[1])] for p in r[2]] + [[(p, frozenset([m])) for p in r[2]] for m in sorted(r[1])]
     return r[-1], [united(c) for c in cs]
 
@@ -158,7 +222,7 @@ class Search:
         self.fields, self.allowed, self.splits, self.dead = [as_clauses(r) for r in rules], allowed, 0, 0
         self.cs = [u for _, us in self.fields for u in us]
         try:
-            plan = self.box([frozenset(range(1, n + 1))] * v)
+            plan = self.box(starting(v, n, rules))
             self.number, self.plan = (0, plan) if plan else (1, None)
         except Stop as s: self.number, self.plan = s.args[0], None
     # One field, its clauses in turn, each room cut at once. Whether it is dead; it is left at its first dead clause.
@@ -194,7 +258,7 @@ class Refused:
     plan, splits, dead, rounds = None, 0, 0, 0
     def __init__(self, number, place): self.number, self.place = number, place
 
-MOST = 1000000
+MOST, FEW = 1000000, 30
 def plan(file, length, allowance):
     if len(file) > 32768: return Refused(10, 0)
     if length < 64: return Refused(11, 0)
@@ -203,7 +267,8 @@ def plan(file, length, allowance):
     return Refused(*r[1:]) if r[0] == 'refused' else Search(*r[1:], allowance)
 
 # ---- the program's counts
-T = dict.fromkeys([0, 1, 2] + list(range(10, 21)) + ['files', 'damaged', 'splits', 'dead', 'places', 'rounds', 'checksum', 'comparisons'], 0)
+REFUSALS = [*range(10, 21), 26, 27]
+T = dict.fromkeys([0, 1, 2, *REFUSALS, 'files', 'damaged', 'special', 'splits', 'dead', 'places', 'rounds', 'checksum', 'comparisons'], 0)
 hist = {}
 
 def ask(file, length=64, allowance=MOST):
@@ -220,40 +285,60 @@ def judge(file, origin=False):
         assert not origin
         return ask(file)
     _, v, n, rules = r
-    many = n ** v > 4096
-    s = ask(file, 64, 30 if many else MOST)
+    rooms = starting(v, n, rules)
+    sizes = [len(room) for room in rooms]
+    many = prod(sizes) > 4096
+    s = ask(file, 64, FEW if many else MOST)
     if not many:
-        a = first(v, n, rules)
+        a = next(plans(rooms, rules), None)
         assert (s.number, s.plan) == ((1, None) if a is None else (0, a)), file
-        assert s.splits <= n ** v - 1
-        if STATS: 
-            key = ('orig' if origin else 'dam', s.number, min(s.splits, 100) if s.splits<12 else s.splits//20*20); hist[key] = hist.get(key, 0) + 1
-    elif STATS: hist['many', s.number] = hist.get(('many', s.number), 0) + 1
+        assert s.splits <= prod(sizes) - 1
     if s.number == 1: assert s.dead == s.splits + 1
     if s.number == 0: assert s.dead <= s.splits
-    assert s.place in [r[-1] for r in rules] if s.number == 1 and s.splits == 0 else s.place == 0
-    assert 1 <= s.rounds <= v * (n - 1) + 1
+    assert s.place in [r[-1] for r in rules if r[0] != 'start'] if s.number == 1 and s.splits == 0 else s.place == 0
+    assert 1 <= s.rounds <= sum(size - 1 for size in sizes) + 1
+    if special(rooms, rules): judge_special(s, v, rooms, rules, many)
+    if STATS:
+        key = (FAMILY[0], origin, 'many' if many else 'few', 'special' if special(rooms, rules) else '', s.number)
+        hist[key] = hist.get(key, 0) + 1
     return s
 
+# Demand 3 of the special kind with v or more splits allowed: NONE at no split, or a plan at no dead end, at no position
+# higher than any other plan.
+def judge_special(s, v, rooms, rules, many):
+    T['special'] += 1; T['comparisons'] += 1
+    if s.number == 2: assert many and v > FEW
+    if s.number == 1: assert s.splits == 0
+    if s.number == 0:
+        assert s.dead == 0 and s.splits <= v
+        assert many or all(x <= y for a in plans(rooms, rules) for x, y in zip(s.plan, a))
+
+# Where the few splits that a file of many assignments is allowed did not suffice, no other allowance is tried.
 def one(src, file, number):
     T['files'] += 1; T['comparisons'] += 1
     assert len(file) < 256
     full = judge(file, True)
-    whole = lambda s: (s.number, s.place, s.plan, s.splits, s.dead, s.rounds)
-    same = lambda s: whole(s) == whole(full)
-    for a in range(0, min(full.splits, 99) + 2):
-        s = ask(file, 64, a)
-        assert (s.number == 2 and s.place == 0 and s.splits == a and s.dead <= a) if a < full.splits else same(s)
-        assert s.rounds == full.rounds
+    if full.number != 2: small_allowances(file, full)
     if number % 100 == 0:
         judge(file, True)
-        for length in range(60, 69):
-            s = ask(file, length)
-            assert s.number == 11 if length < 64 else same(s)
-        for a in (MOST - 1, MOST + 1, 2 ** 64 - 1):
-            s = ask(file, 64, a)
-            assert s.number == 12 if a > MOST else same(s)
+        if full.number != 2: limits(file, full)
         damaged(src, file)
+
+def whole(s): return s.number, s.place, s.plan, s.splits, s.dead, s.rounds
+
+def small_allowances(file, full):
+    for a in range(0, min(full.splits, 99) + 2):
+        s = ask(file, 64, a)
+        assert (s.number == 2 and s.place == 0 and s.splits == a and s.dead <= a) if a < full.splits else whole(s) == whole(full)
+        assert s.rounds == full.rounds
+
+def limits(file, full):
+    for length in range(60, 69):
+        s = ask(file, length)
+        assert s.number == 11 if length < 64 else whole(s) == whole(full)
+    for a in (MOST - 1, MOST + 1, 2 ** 64 - 1):
+        s = ask(file, 64, a)
+        assert s.number == 12 if a > MOST else whole(s) == whole(full)
 
 def damaged(src, file):
     def tried(b): T['damaged'] += 1; judge(bytes(b))
@@ -262,20 +347,35 @@ def damaged(src, file):
         tried(file[:i])
         tried(file[:i] + bytes([(file[i] + 251 + src.draw(5)) % 256]) + file[i + 1:])
         tried(file[:i] + bytes([(file[i] + 1 + src.draw(255)) % 256]) + file[i + 1:])
+        tried(file[:i] + bytes([4]) + file[i + 1:])
+        tried(file[:i] + bytes([0]) + file[i + 1:])
         more(i)
     more(len(file))
+    at = 5
+    while at < len(file):
+        end = at + 3 + file[at + 1] * 256 + file[at + 2]
+        twice = bytearray((file + file[at:end])[:256])
+        tried(twice)
+        twice[-1] = 0; tried(twice)
+        twice[-1] = 255; tried(twice)
+        if len(file) + 3 < len(twice): twice[len(file) + 3] = 0
+        tried(twice)
+        at = end
 
 src = Source(20251)
+FAMILY = [None]
 for family, size in enumerate(SIZES):
+    FAMILY[0] = family
     for k in range(size):
-        one(src, systematic(family, k) if family < 6 else drawn(family, src), k)
+        one(src, systematic(family, k) if family < SYSTEMATIC else drawn(family, src), k)
+FAMILY[0] = 'limits'
 long = bytes([1]) * 32769
 for file, length, allowance in [(long, 64, MOST), (long, 63, MOST + 1), (b'', 63, MOST + 1), (b'', 64, MOST + 1)]: ask(file, length, allowance)
 for v, n in [(1, 1), (64, 32), (65, 32), (64, 33), (0, 1), (1, 0)]: judge(header(v, n))
 judge(header(64, 1) + field(3, bytes([0, 0, 0, 1] + [1] * 64))); judge(header(64, 1) + field(3, bytes([0, 0, 0, 1] + [1] * 65)))
-print('files', T['files']); print('damaged files', T['damaged'])
+print('files', T['files']); print('damaged files', T['damaged']); print('of the special kind', T['special'])
 print('PLAN', T[0]); print('NONE', T[1]); print('UNDECIDED', T[2])
-for i in range(10, 21): print('refused, %d: %d' % (i, T[i]))
+for i in REFUSALS: print('refused, %d: %d' % (i, T[i]))
 print('splits', T['splits']); print('dead ends', T['dead']); print('places', T['places']); print('rounds', T['rounds'])
 print('checksum', T['checksum']); print('comparisons', T['comparisons']); print('differences 0')
 if STATS:

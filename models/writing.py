@@ -1,4 +1,4 @@
-# Writes rule files from 01's section "The rule file": `header(2, 2) + equality({1, 2}, 1, 2)` is case e.
+# Writes rule files from 01's section "The rule file" and 02's R-6: `header(2, 2) + equality({1, 2}, 1, 2)` is case e.
 
 # The number that stands for a set: the lowest bit stands for value 1.
 def mask_of(values):
@@ -28,3 +28,8 @@ def clause(*atoms):
 # The equality of a set with the values of the named positions.
 def equality(values, *positions):
     return field(3, set_bytes(values) + bytes(positions))
+
+
+# The starting set of a position (02, R-6).
+def start(position, values):
+    return field(4, bytes([position]) + set_bytes(values))

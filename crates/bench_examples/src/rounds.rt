@@ -1,7 +1,7 @@
 // Files that tell readings of the rounds apart (02, R-10): a reply has those of the first box. A round goes
 // once through all fields in file order, and rounds stop after one that changes nothing or at one that
 // finds a dead field; either counts. The most rounds are the sum over positions of starting size less one,
-// plus one, which is v * (n - 1) + 1. In a file of several fields each stands on a line.
+// plus one, which is v * (n - 1) + 1 where no position has a starting set of its own. In a file of several fields each stands on a line.
 use super::limits::longest_and_one;
 use super::line::show;
 use super::line::show_most;

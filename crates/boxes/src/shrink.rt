@@ -52,6 +52,7 @@ pub(crate) fn look_field(
         Tag::Header => true,
         Tag::Clause => look_atoms(rooms, content, len, v),
         Tag::Equality => look_equality(rooms, content, len, v),
+        Tag::Starting => look_atoms(rooms, content, len, v),
         Tag::Unknown => true,
     }
 }

@@ -16,13 +16,14 @@ use Rattle.sets.specs.Sets.{union, common, isEmpty, count}
 use Rattle.sets.proofs.Sameness.{empty-test}
 use Rattle.sets.proofs.Unions.{empty-union, common-empty, left-empty, right-empty}
 use Rattle.rules.specs.declared.field.Atom.{Atom}
-use Rattle.rules.specs.declared.field.Tag.the-variants.{Clause}
+use Rattle.rules.specs.declared.field.Tag.the-variants.{Clause, Starting}
 use Rattle.rules.specs.Contents.{Atoms}
 use Rattle.rules.specs.Rules.{clause}
-use Rattle.rules.specs.Parts.{partsOf}
+use Rattle.rules.specs.Parts.{Part, partsOf}
 use Rattle.rules.specs.Reading.{atomOf, atomsOf, ruleOf}
-use Rattle.steps.specs.Boxes.{roomAt}
-use Rattle.steps.specs.Shrinking.{united, isLive, settledClause, someOf}
+use Rattle.rules.proofs.Reading.ContentLaws.{start-parts}
+use Rattle.steps.specs.Boxes.{roomAt, wide}
+use Rattle.steps.specs.Shrinking.{united, isLive, settledClause, someOf, liveInParts}
 use Rattle.steps.proofs.Boxes.BoxSizes.{wide-and}
 use Rattle.steps.proofs.Looks.ClauseLaws.{live-two}
 use Rattle.clauses.specs.Scans.{atomsFrom, AtomsFrom, sharedIn}
@@ -190,3 +191,25 @@ module _ {v len i : ℕ} {content rooms : List ℕ} {best low : ℕ} (going : At
   clause-open past masks u =
       let all = atomsOf (len / 5) content in
       sym (clause-open-live (take v rooms) all best (masks-front v rooms masks) u ∙ atoms-left-end going past)
+
+-- ---- a starting set
+
+module _ {v len : ℕ} {content : List ℕ} (rooms : List ℕ) (best : ℕ) (five : len ≡ 5) (atoms : Atoms v len content) where
+  -- it leaves what the clause of its bytes leaves
+  as-clause : lowestBy (take v rooms) (ruleOf Clause len content) best ≡ lowestBy (take v rooms) (ruleOf Starting len content) best
+  unfolding ruleOf partsOf
+  as-clause = ap (λ (parts : List Part). lowest (λ i. wide (take v rooms) i && liveInParts (take v rooms) (i + 1) parts) best) (sym (start-parts len content five))
+
+  module _ {a : Atom} (here : a ≡ atomOf (drop 0 content)) {met : ℕ} (meets : met ≡ common (getD rooms (a .position - 1) 0) (a .set)) where
+    -- the best as it is, where its position is no lower or its room does not meet the set
+    pub start-dull : (best ≤ a .position - 1) ⊎ (met ≡ 0) → best ≡ lowestBy (take v rooms) (ruleOf Starting len content) best
+    start-dull h = clause-dull (atoms-left-on (atoms-left-start rooms best atoms) (omega arith) here meets h) (omega arith) (omega arith) ∙ as-clause
+
+    -- or where its clause is settled
+    pub start-shut : settledClause (take v rooms) (atomsOf (len / 5) content) ≡ true → best ≡ lowestBy (take v rooms) (ruleOf Starting len content) best
+    start-shut e = clause-shut (atoms-left-start rooms best atoms) e ∙ as-clause
+
+    -- else its position
+    pub start-open : a .position - 1 < best → (met ≡ 0 → ⊥) → Masks rooms → settledClause (take v rooms) (atomsOf (len / 5) content) ≡ false
+        → a .position - 1 ≡ lowestBy (take v rooms) (ruleOf Starting len content) best
+    start-open l ne masks u = clause-open (atoms-left-lower (atoms-left-start rooms best atoms) (omega arith) here meets l ne) (omega arith) masks u ∙ as-clause

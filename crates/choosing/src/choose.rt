@@ -5,7 +5,7 @@ ghost use Prim.Native.Nat.{_≤_};
 ghost use Rattle.rules.specs.Sound.{SoundInput};
 ghost use Rattle.choosing.specs.LowestBy.{firstWide, Masks};
 ghost use Rattle.choosing.specs.Promise.{Chooses};
-use super::equality::lowest_by_equality;
+use super::kinds::lowest_by_kind;
 use clauses::settle::settled_united;
 use rules::field::Tag;
 use rules::field::atom_at;
@@ -50,31 +50,29 @@ pub fn choose(input: &[u8], v: usize, rooms: &[u32; Room::POSITIONS]) -> usize
         let len = head.length;
         let content = &input[at + 3..];
         at += 3 + len;
-        match tag_of(head.tag) {
-            Tag::Header => {}
-            Tag::Clause => {
-                let mut low = best;
-                let mut i = 0;
-                while i < len {
-                    let atom = atom_at(content, i);
-                    let p = atom.position as usize - 1;
-                    let room = Room { mask: rooms[p] };
-                    let set = Room { mask: atom.set };
-                    if room.inside(set) {
-                        continue 'fields;
-                    }
-                    i += 5;
-                    let met = room.common(set).mask;
-                    if p < low && met != 0 {
-                        low = p;
-                    }
+        let kind = tag_of(head.tag);
+        if let Tag::Clause = kind {
+            let mut low = best;
+            let mut i = 0;
+            while i < len {
+                let atom = atom_at(content, i);
+                let p = atom.position as usize - 1;
+                let room = Room { mask: rooms[p] };
+                let set = Room { mask: atom.set };
+                if room.inside(set) {
+                    continue 'fields;
                 }
-                if low < best && !settled_united(rooms, content, len, v) {
-                    best = low;
+                i += 5;
+                let met = room.common(set).mask;
+                if p < low && met != 0 {
+                    low = p;
                 }
             }
-            Tag::Equality => best = lowest_by_equality(rooms, content, len, v, best),
-            Tag::Unknown => {}
+            if low < best && !settled_united(rooms, content, len, v) {
+                best = low;
+            }
+        } else {
+            best = lowest_by_kind(rooms, content, kind, len, v, best);
         }
     }
     best

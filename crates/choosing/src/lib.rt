@@ -3,4 +3,6 @@
 //
 // The rooms of positions 1 to v are the first v masks of an array of 64; the others play no part.
 pub mod choose;
-pub mod equality;
+mod equality;
+mod kinds;
+mod starting;

@@ -1,6 +1,5 @@
 pub mod AtomsInTurn
 pub mod FrontRooms
-pub mod MarkLaws
 pub mod PositionsInTurn
 pub mod ScanLaws
 pub mod SettledClauses

@@ -22,11 +22,11 @@ use Rattle.steps.specs.Boxes.{roomAt}
 use Rattle.steps.specs.Shrinking.{united, settledBy, settledClause}
 use Rattle.steps.proofs.Looks.ClauseLaws.{ShowsSettled, settled-some}
 use Rattle.steps.proofs.Looks.LiveLaws.{member-united}
-use Rattle.clauses.specs.Marks.{isMarked, withMark}
+use Rattle.sets.specs.Marks.{isMarked, withMark}
 use Rattle.clauses.specs.Scans.{atomsFrom, AtomsFrom, sharedIn}
 use Rattle.clauses.proofs.AtomsInTurn.{atoms-all, atoms-start, atoms-end, atoms-next, atom-fits, atom-listed, atoms-on-from}
 use Rattle.clauses.proofs.FrontRooms.{room-there}
-use Rattle.clauses.proofs.MarkLaws.{none-marked, marked-was, marked-now}
+use Rattle.sets.proofs.MarkLaws.{none-marked, marked-was, marked-now}
 use Rattle.clauses.proofs.UnitedLaws.{united-one, united-elsewhere, united-append}
 
 -- ---- the atoms of a clause

@@ -1,4 +1,3 @@
 pub mod Looks
-pub mod Marks
 pub mod Scans
 pub mod Promise

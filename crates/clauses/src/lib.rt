@@ -4,6 +4,5 @@
 // The rooms of positions 1 to v are the first v masks of an array of 64; the others play no part
 // and stay as they are.
 pub mod look;
-mod marks;
 pub mod settle;
 pub mod united;

@@ -2,11 +2,11 @@
 // union of its sets, which is worked out when it is needed. The contract cites specs/Promise.antt.
 ghost use Rattle.rules.specs.Contents.{Atoms};
 ghost use Rattle.clauses.specs.Promise.{SettlesUnited};
-use super::marks::is_marked;
-use super::marks::with_mark;
 use super::united::united_at;
 use rules::field::atom_at;
 use sets::Room;
+use sets::marks::is_marked;
+use sets::marks::with_mark;
 
 // Whether the clause that a content of so many bytes is, is settled: some position has its room inside the
 // union of its sets. A set that does not meet the room adds nothing to that, and one alone is told at its

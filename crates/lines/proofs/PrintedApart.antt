@@ -9,7 +9,7 @@ use Rattle.lists.specs.Lists.{Every}
 use Rattle.rules.specs.Rules.{File}
 use Rattle.rules.specs.Reading.{Reading, sound, refused, reading}
 use Rattle.lists.proofs.ListLaws.{every-map}
-use Rattle.rules.proofs.Reading.RefusalLaws.{refused-number, refused-place}
+use Rattle.rules.proofs.Reading.RefusalLaws.{refused-range, refused-place}
 use Rattle.rules.proofs.Writing.RoundTrip.{written-of-read}
 use Rattle.steps.specs.Table.{planned, ofReading}
 use Rattle.searching.specs.declared.reply.Reply.{Reply}
@@ -43,7 +43,7 @@ promised-printable input before after allowed r promised =
         let near : found .place ≤ 32768 = subst (λ (s : Reply). s .place ≤ 32768) is (reply-limits input before after allowed r promised .place) in
         ends (found .number) (found .place) (found .splits) (found .deadEnds) (omega arith) nowhere (omega arith) (omega (arith, counts .within)) (omega (arith, counts .within, counts .fewer))
     read (refused number place) e short roomy modest is =
-        let range = refused-number input number place e in
+        let range = refused-range input number place e in
         refuses number place (omega arith) (omega arith) (omega (arith, refused-place input number place e))
 
 -- the values that are printed for an input, where its reply is a plan

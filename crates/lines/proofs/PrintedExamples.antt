@@ -10,13 +10,14 @@ use Rattle.sets.specs.Sets.{full, single, union, common, complement, inRange, o
 use Rattle.lists.specs.Lowest.{lowest}
 use Rattle.lists.specs.Lists.{Every}
 use Rattle.rules.specs.Writing.{twoBytes, fourBytes, writtenAtoms, framed, contentBytes, writtenRule, placed, fieldsOf}
-use Rattle.rules.specs.Reading.{tagOf, lengthAt, setAt, atomOf, headOf, contentOf, atomsOf, ruleOf, lengthFits, tagFault, bodyFault, headerBodyFault, positionFault, setFault, atomFault, atomsFault, positionsFault, ruleFault, ruleAt, fieldFault, limitsFit, headerFault, sizeOf, readFields, reading}
+use Rattle.rules.specs.Reading.{tagOf, lengthAt, setAt, atomOf, headOf, contentOf, atomsOf, ruleOf, lengthFits, tagFault, bodyFault, headerBodyFault, positionFault, setFault, atomFault, atomsFault, positionsFault, ruleFault, ruleAt, fieldFault, limitsFit, headerFault, sizeOf, seenWith, againFault, faultAfter, readFields, reading}
 use Rattle.rules.specs.Parts.{atomIn, equalityParts, partsOf}
 use Rattle.steps.specs.Boxes.{roomAt, withRoom, startBox, openValues, smallestOf, firstHalf, otherHalf}
 use Rattle.steps.specs.Shrinking.{uniteIf, united, isLive, liveFrom, cut, lookBy, lookClause, settledBy, settledClause, inTurn, sameRooms, shrink, shrunk, allOf, someOf}
 use Rattle.steps.specs.Rounds.{countRounds, roundsOf}
 use Rattle.steps.specs.Search.{splittable, chosen, search, searched}
-use Rattle.steps.specs.Table.{startOf, planned, ofReading, replyOf}
+use Rattle.steps.specs.Start.{startBy, startsBy, startOf}
+use Rattle.steps.specs.Table.{planned, ofReading, replyOf}
 use Rattle.steps.specs.Reply.{Reply, refusal}
 use Rattle.steps.specs.Cases.{case, case-c, case-d, case-e, case-g}
 use Rattle.searching.specs.Answered.{told}
@@ -59,7 +60,7 @@ pub printed-cases :
     Prints (case-e .bytes) "PLAN 1 0\n1 2\n" "" × Prints (case-c .bytes) "PLAN 0 0\n1 1\n" "" × Prints (case-g .bytes) "NONE 1 2\n" ""
     × Prints (case-d .bytes) "NONE 0 1 5\n" "the field at byte 5 cannot be met by what the rules leave open\n"
     × Prints [] "REFUSED 14 0\n" "the input is empty, or its first tag is not 1 (header)\n"
-unfolding full single union common complement inRange onlyIf isEmpty inside listedIf valuesFrom values count firstOf smallest beside others tagOf lengthAt setAt atomOf headOf contentOf atomsOf ruleOf lengthFits tagFault bodyFault headerBodyFault positionFault setFault atomFault atomsFault positionsFault ruleFault ruleAt fieldFault limitsFit headerFault sizeOf readFields reading twoBytes fourBytes writtenAtoms framed contentBytes writtenRule placed fieldsOf atomIn equalityParts partsOf roomAt withRoom startBox openValues smallestOf firstHalf otherHalf uniteIf united isLive liveFrom cut lookBy lookClause settledBy settledClause inTurn sameRooms shrink shrunk countRounds roundsOf allOf someOf lowest splittable chosen search searched startOf planned ofReading replyOf case case-c case-d case-e case-g bytesOf digits decimal behind spaced newline firstLine noneLine textOf positionsOf faults faultOf placeOf wordsOf unmetOf reasonOf
+unfolding full single union common complement inRange onlyIf isEmpty inside listedIf valuesFrom values count firstOf smallest beside others tagOf lengthAt setAt atomOf headOf contentOf atomsOf ruleOf lengthFits tagFault bodyFault headerBodyFault positionFault setFault atomFault atomsFault positionsFault ruleFault ruleAt fieldFault limitsFit headerFault sizeOf seenWith againFault faultAfter readFields reading twoBytes fourBytes writtenAtoms framed contentBytes writtenRule placed fieldsOf atomIn equalityParts partsOf roomAt withRoom startBox openValues smallestOf firstHalf otherHalf uniteIf united isLive liveFrom cut lookBy lookClause settledBy settledClause inTurn sameRooms shrink shrunk countRounds roundsOf allOf someOf lowest splittable chosen search searched startBy startsBy startOf planned ofReading replyOf case case-c case-d case-e case-g bytesOf digits decimal behind spaced newline firstLine noneLine textOf positionsOf faults faultOf placeOf wordsOf unmetOf reasonOf
 printed-cases = (
   prints (case-e .bytes) (case-e .reply) "PLAN 1 0\n1 2\n" "" (omega arith) refl refl refl,
   prints (case-c .bytes) (case-c .reply) "PLAN 0 0\n1 1\n" "" (omega arith) refl refl refl,

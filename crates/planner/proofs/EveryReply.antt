@@ -1,4 +1,4 @@
--- What holds of every reply that the promise allows: its number is 0, 1 or 2 or a refusal's (`reply-numbers`), its other numbers are small (`reply-limits`), NONE has one dead end more than splits (`none-counted`). Assumes nothing.
+-- What holds of every reply that the promise allows: its number is 0, 1 or 2 or a refusal's (`reply-numbers`), its other numbers are small (`reply-limits`), NONE has one dead end more than splits (`none-counted`), and with one assignment inside the starting sets there is no split (`one-assignment`). Assumes nothing.
 use mathlib.Core.Path.{_≡_, sym, ap, subst}
 use mathlib.Core.Logic.{_⊎_, inl, inr}
 use mathlib.Core.List.{List}
@@ -7,12 +7,15 @@ use native.Mathlib.Decide.{decLe}
 use native.Mathlib.Omega.{arith}
 use lib.ListN.{length}
 use Rattle.rules.specs.Reading.{Reading, sound, refused, reading}
-use Rattle.rules.proofs.Reading.RefusalLaws.{refused-number, refused-place}
+use Rattle.rules.proofs.Reading.RefusalLaws.{refused-range, refused-place}
+use Rattle.rules.specs.Rules.{File}
+use Rattle.steps.specs.Boxes.{boxSize}
 use Rattle.steps.specs.Reply as steps
+use Rattle.steps.specs.Start.{startOf}
 use Rattle.steps.specs.Table.{ofReading}
 use Rattle.searching.specs.declared.reply.Reply.{Reply}
 use Rattle.searching.specs.Answered.{told}
-use Rattle.planner.specs.Promise.{Planned}
+use Rattle.planner.specs.Promise.{Accepted, Planned}
 use Rattle.planner.proofs.ReplyLaws.{of-every-reply, read-counts, read-rounds}
 use Rattle.planner.proofs.UnmetField.{place-within}
 
@@ -43,7 +46,7 @@ read-limited input allowed (refused number place) read modest near =
       splits = omega arith;
       deadEnds = omega arith;
       rounds = omega arith;
-      none = λ e. absurd (omega (arith, refused-number input number place read));
+      none = λ e. absurd (omega (arith, refused-range input number place read));
     }
 
 module _ (input before after : List ℕ) (allowed : ℕ) (r : Reply) (promised : Planned input before after allowed r) where
@@ -76,3 +79,8 @@ module _ (input before after : List ℕ) (allowed : ℕ) (r : Reply) (promised :
       go : Dec (r .number ≤ 2) → (r .number ≤ 2) ⊎ (10 ≤ r .number)
       go (yes low) = inl low
       go (no high) = inr (promised .refused λ file accepted. high (promised .decided file accepted))
+
+-- where one assignment alone lies inside the starting sets, no reply has a split
+pub one-assignment : (input before after : List ℕ) (allowed : ℕ) (r : Reply) → Planned input before after allowed r → (file : File) → Accepted input before allowed file
+    → boxSize (startOf file) ≡ 1 → r .splits ≡ 0
+one-assignment input before after allowed r promised file accepted one = omega (arith, promised .bound file accepted, one)

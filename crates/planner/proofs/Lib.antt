@@ -5,5 +5,6 @@ pub mod ReplyLaws
 pub mod SpareRooms
 pub mod StarredPlanned
 pub mod StartRooms
+pub mod StartsInTurn
 pub mod UnmetField
 pub mod Unique

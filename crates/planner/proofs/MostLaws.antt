@@ -1,4 +1,4 @@
--- The end of a progress bar (R-10): what `rounds_most` answers is enough for every reply (`most-kept`), and it is v * (n - 1) + 1 of a file that is read (`most-of-header`). The rounds of
+-- The end of a progress bar (R-10): what `rounds_most` answers is enough for every reply (`most-kept`), and it is at most v * (n - 1) + 1 of a file that is read (`most-of-header`). The rounds of
 -- a file are the same whatever the buffer and the allowance (`rounds-alike`). Assumes nothing.
 use mathlib.Core.Path.{_≡_, sym, _∙_, subst}
 use mathlib.Core.List.{List}
@@ -11,8 +11,11 @@ use Rattle.rules.specs.Rules.{File}
 use Rattle.rules.specs.Reading.{Reading, sound, refused, reading}
 use Rattle.rules.specs.Writing.{fieldsOf}
 use Rattle.rules.proofs.Writing.RoundTrip.{written-of-read}
-use Rattle.steps.specs.Table.{startOf, planned, ofReading, mostOf, mostRounds}
-use Rattle.steps.proofs.Rounds.{most-by-header}
+use Rattle.steps.specs.Start.{startOf}
+use Rattle.steps.specs.Table.{planned, ofReading, mostOf, mostRounds}
+use Rattle.steps.specs.Rounds.{roundsMost}
+use Rattle.steps.proofs.Rounds.{most-by-header, most-plain}
+use Rattle.steps.proofs.Start.StartLaws.{NoStart}
 use Rattle.steps.proofs.Looks.RoundLaws.{rounds-bound, rounds-only}
 use Rattle.searching.specs.declared.reply.Reply.{Reply}
 use Rattle.searching.specs.Answered.{told}
@@ -47,12 +50,18 @@ module _ (input : List ℕ) where
   pub most-kept : {r : ℕ} → r ≡ mostRounds input → RoundsMost input r
   most-kept e = record { exactly = e; enough = λ before after allowed reply promised. omega (arith, e, reply-most before after allowed reply promised) }
 
-  -- what a caller can work out from bytes 3 and 4 of a file that is read
-  pub most-of-header : Every (λ b. b < 256) input → (file : File) → reading input ≡ sound file → length input ≤ 32768 → (r : ℕ) → RoundsMost input r
-      → r ≡ file .v * (file .n - 1) + 1
-  unfolding mostOf
-  most-of-header bytes file read short r promised =
-      promised .exactly ∙ most-reading (sound file) read short ∙ most-by-header file (written-of-read input bytes file read .1)
+  module _ (bytes : Every (λ b. b < 256) input) (file : File) (read : reading input ≡ sound file) (short : length input ≤ 32768) (r : ℕ) (promised : RoundsMost input r) where
+    by-start : r ≡ roundsMost (startOf file)
+    unfolding mostOf
+    by-start = promised .exactly ∙ most-reading (sound file) read short
+
+    -- no more than a caller can work out from bytes 3 and 4 of a file that is read
+    pub most-of-header : r ≤ file .v * (file .n - 1) + 1
+    most-of-header = omega (arith, by-start, most-by-header file (written-of-read input bytes file read .1))
+
+    -- and just that where the file has no starting set
+    pub most-without-starts : Every NoStart (file .rules) → r ≡ file .v * (file .n - 1) + 1
+    most-without-starts plain = by-start ∙ most-plain file (written-of-read input bytes file read .1) plain
 
   -- two replies to one file have the same rounds, with any two buffers and allowances that are not refused: UNDECIDED has those of the PLAN or NONE that more splits give
   pub rounds-alike : (file : File) {before after before′ after′ : List ℕ} {allowed allowed′ : ℕ} {r s : Reply} → Planned input before after allowed r → Planned input before′ after′ allowed′ s

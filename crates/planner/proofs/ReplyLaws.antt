@@ -10,14 +10,15 @@ use lib.ListN.{length}
 use Rattle.rules.specs.Writing.{fieldsOf}
 use Rattle.rules.specs.Rules.{File}
 use Rattle.rules.specs.Reading.{Reading, sound, refused, reading}
-use Rattle.rules.proofs.Reading.RefusalLaws.{refused-number}
+use Rattle.rules.proofs.Reading.RefusalLaws.{refused-range, read-faultless}
 use Rattle.steps.specs.Shrinking.{ifTest}
 use Rattle.steps.specs.Reply.{Reply, refusal}
-use Rattle.steps.specs.Boxes.{startBox, Rooms}
+use Rattle.steps.specs.Boxes.{Rooms}
 use Rattle.steps.specs.Rounds.{roundsOf, roundsMost}
-use Rattle.steps.specs.Table.{startOf, planned, ofReading, replyOf}
-use Rattle.steps.proofs.Boxes.BoxSizes.{start-rooms, spare-most}
-use Rattle.steps.proofs.Demands.{start-positions}
+use Rattle.steps.specs.Start.{startOf}
+use Rattle.steps.specs.Table.{planned, ofReading, replyOf}
+use Rattle.steps.proofs.Boxes.BoxSizes.{spare-most}
+use Rattle.steps.proofs.Start.StartLaws.{start-positions, faultless-filled}
 use Rattle.steps.proofs.Looks.FittingRules.{FieldsFit, FitsBox, read-fits}
 use Rattle.steps.proofs.Looks.RoundLaws.{rounds-bound}
 use Rattle.steps.proofs.Search.Counts.{Counted, Written, counted-rounds, search-counts, search-written}
@@ -36,10 +37,10 @@ module _ (input : List ℕ) (file : File) (read : reading input ≡ sound file) 
 
   -- the rooms that the search of a file that was read starts with are not empty
   pub start-filled : Rooms (startOf file)
-  unfolding startOf
   start-filled =
       let values = sound-values input (file .v) sound-input in
-      subst (λ (f : File). Rooms (startBox (f .v) (f .n))) is-file (start-rooms (fileOf (reading input) .v) (fileOf (reading input) .n) (values .0) (values .1))
+      let same = ap (λ (f : File). f .n) is-file in
+      faultless-filled file (omega arith) (omega arith) (read-faultless input file read)
 
   -- and its rules fit them
   start-fits : FitsBox (fieldsOf file) (startOf file)
@@ -101,7 +102,7 @@ module _ (input : List ℕ) (buffer allowed : ℕ) where
     where
       read : (r : Reading) → reading input ≡ r → length input ≤ 32768 → 64 ≤ buffer → allowed ≤ 1000000 → (10 ≤ ofReading r allowed .number) × (ofReading r allowed .rounds ≡ 0)
       read (sound file) e h g l = absurd (nobody file h g l e)
-      read (refused number place) e h g l = let n = refused-number input number place e in (omega arith, refl)
+      read (refused number place) e h g l = let n = refused-range input number place e in (omega arith, refl)
 
   -- a reply that is no plan has no values
   pub reply-silent : Written (replyOf input buffer allowed)

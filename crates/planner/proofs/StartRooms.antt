@@ -16,11 +16,14 @@ use Rattle.steps.specs.Boxes.{startBox, spareValues, Rooms}
 use Rattle.steps.specs.Rounds.{roundsOf, roundsMost}
 use Rattle.steps.specs.Reply.{withRounds}
 use Rattle.steps.specs.Search.{searched}
-use Rattle.steps.specs.Table.{startOf, planned, mostOf, mostRounds}
+use Rattle.steps.specs.Start.{startsBy, startOf}
+use Rattle.steps.specs.Table.{planned, mostOf, mostRounds}
 use Rattle.steps.proofs.Boxes.BoxSizes.{spare-most}
 use Rattle.sound.proofs.CheckedLaws.{checked-sound}
 use Rattle.planner.proofs.MostLaws.{most-reading}
 use Rattle.planner.proofs.ReplyLaws.{start-filled}
+use Rattle.planner.proofs.StartsInTurn.{front-starts}
+use Rattle.steps.proofs.Start.StartLaws.{starts-length}
 
 -- the first v of 64 rooms {1..n} are the box at the start
 start-front : (v n : ℕ) → v ≤ 64 → take v (replicate 64 (full n)) ≡ startBox v n
@@ -37,13 +40,15 @@ module _ (s : List ℕ) (v n : ℕ) (checked : checkedOf (reading s) ≡ Sound v
   pub sound-checked : SoundInput s v
   sound-checked = let so = checked-sound (reading s) v n checked in record { read = so .0; positions = so .1 }
 
-  module _ {rooms : List ℕ} (made : rooms ≡ replicate 64 (full n)) where
+  module _ {rooms : List ℕ} (made : rooms ≡ startsBy (fileOf (reading s) .rules) (replicate 64 (full n))) where
     -- the first v rooms are those that the file's search starts with
     from-start : take v rooms ≡ startOf (fileOf (reading s))
     unfolding startOf
     from-start =
         let so = checked-sound (reading s) v n checked in
-        ap (take v) made ∙ start-front v n (sound-limits s v sound-checked .1) ∙ ap₂ startBox (sym (so .1)) (sym (so .2))
+        let rules = fileOf (reading s) .rules in
+        ap (take v) made ∙ front-starts v rules (replicate 64 (full n))
+        ∙ ap (startsBy rules) (start-front v n (sound-limits s v sound-checked .1) ∙ ap₂ startBox (sym (so .1)) (sym (so .2)))
 
     -- none of them is empty
     pub start-full : Rooms (take v rooms)
@@ -51,7 +56,7 @@ module _ (s : List ℕ) (v n : ℕ) (checked : checkedOf (reading s) ≡ Sound v
 
     -- 64 of them are there
     start-long : v ≤ length rooms
-    start-long = omega (arith, ap length made ∙ length-replicate 64 (full n), sound-limits s v sound-checked .1)
+    start-long = omega (arith, ap length made ∙ starts-length (fileOf (reading s) .rules) (replicate 64 (full n)) ∙ length-replicate 64 (full n), sound-limits s v sound-checked .1)
 
     -- ---- the most rounds
 

@@ -1,5 +1,6 @@
 -- What a technician may rely on after NONE with no split (R-3), from the promise alone: the place is that of a field of the file (`unmet-field`); where the first
--- round finds that field dead, the rules up to and including it alone have no plan (`unmet-alone`), and the file cut behind it has the same reply (`unmet-cut`).
+-- round finds that field dead, the rules up to and including it, with the starting sets, have no plan (`unmet-alone`), and the file cut behind it, with the starting sets that
+-- stand there, has the same reply (`unmet-cut`).
 -- Assumes nothing.
 use mathlib.Core.Path.{_≡_, sym, ap, _∙_}
 use mathlib.Core.Logic.{_↔_}
@@ -7,20 +8,21 @@ use mathlib.Core.List.{List, _++_}
 use Prim.Native.Nat.{ℕ, _≤_, _<_}
 use native.Mathlib.Decide.{ℕ-discrete}
 use native.Mathlib.Omega.{arith}
-use lib.ListN.{length, length-append}
+use lib.ListN.{length}
 use Rattle.lists.specs.Lists.{Some, Every}
 use Rattle.lists.proofs.ListLaws.{every-with-some, some-of-listed, listed-of-some}
 use Rattle.rules.specs.Rules.{File}
 use Rattle.rules.specs.Meaning.{Plan}
 use Rattle.rules.specs.Reading.{sound, reading}
-use Rattle.rules.specs.Writing.{written, fieldsOf}
+use Rattle.rules.specs.Writing.{writtenRules, fieldsOf}
 use Rattle.rules.specs.Sound.{StandsIn}
-use Rattle.rules.specs.UpTo.{upTo}
+use Rattle.rules.specs.UpTo.{onlyStarts, upTo}
 use Rattle.rules.proofs.Reading.FieldsStand.{fields-stand}
 use Rattle.rules.proofs.Writing.RoundTrip.{written-of-read, read-of-written}
-use Rattle.rules.proofs.Writing.UpToLaws.{front-within, front-written}
+use Rattle.rules.proofs.Writing.UpToLaws.{later, front-within, front-written}
 use Rattle.steps.specs.Shrinking.{dead, round}
-use Rattle.steps.specs.Table.{startOf, replyOf}
+use Rattle.steps.specs.Start.{startOf}
+use Rattle.steps.specs.Table.{replyOf}
 use Rattle.steps.proofs.Looks.DeadField.{dead-field}
 use Rattle.steps.proofs.UnmetField.{first-round-alone, first-round-reply}
 use Rattle.searching.specs.declared.reply.Reply.{Reply}
@@ -61,24 +63,24 @@ module _ (input before after : List ℕ) (allowed : ℕ) (r : Reply) (promised :
   -- ---- where the first round finds the field dead
 
   module _ (bytes : Every (λ b. b < 256) input) (found : round (fieldsOf file) (startOf file) ≡ dead (r .place)) where
-    -- the rules up to and including it alone have no plan
+    -- the rules up to and including it, with the starting sets, have no plan
     pub unmet-alone : (a : List ℕ) → Plan (upTo (r .place) file) a → ⊥
     unmet-alone = first-round-alone file (r .place) found (written-of-read input bytes file (accepted .read) .1)
 
-    -- the input cut behind it is the file of those rules, and has the same reply
-    pub unmet-cut : (front rest : List ℕ) × (input ≡ front ++ rest) × (reading front ≡ sound (upTo (r .place) file))
-        × (replyOf front (length before) allowed ≡ replyOf input (length before) allowed)
+    -- The input cut behind it, with the starting sets that stand behind it and no other field, is the file of those rules, and has the same reply.
+    pub unmet-cut : (front : List ℕ) × (input ≡ front ++ writtenRules (later (r .place) file))
+        × (reading (front ++ writtenRules (onlyStarts (later (r .place) file))) ≡ sound (upTo (r .place) file))
+        × (replyOf (front ++ writtenRules (onlyStarts (later (r .place) file))) (length before) allowed ≡ replyOf input (length before) allowed)
     unmet-cut =
         let read = written-of-read input bytes file (accepted .read) in
         let parts = front-written (r .place) file in
-        let whole : input ≡ written (upTo (r .place) file) ++ parts .0 = read .0 ∙ parts .1 in
-        let again = read-of-written (upTo (r .place) file) (front-within (r .place) file (read .1)) in
-        let short : length (written (upTo (r .place) file)) ≤ 32768 = omega (arith, accepted .short, ap length whole, length-append (written (upTo (r .place) file)) (parts .0)) in
-        let cut : Accepted (written (upTo (r .place) file)) before allowed (upTo (r .place) file) =
-        record { short = short; roomy = accepted .roomy; modest = accepted .modest; read = again } in (
-          written (upTo (r .place) file),
+        let kept : List ℕ = parts .0 ++ writtenRules (onlyStarts (later (r .place) file)) in
+        let again : reading kept ≡ sound (upTo (r .place) file) =
+        ap reading (sym (parts .1 .kept)) ∙ read-of-written (upTo (r .place) file) (front-within (r .place) file (read .1)) in
+        let short : length kept ≤ 32768 = omega (arith, accepted .short, ap length (read .0), parts .1 .short, ap length (parts .1 .kept)) in
+        let cut : Accepted kept before allowed (upTo (r .place) file) = record { short = short; roomy = accepted .roomy; modest = accepted .modest; read = again } in (
           parts .0,
-          whole,
+          read .0 ∙ parts .1 .all,
           again,
           accepted-reply _ before allowed _ cut ∙ first-round-reply file (r .place) found (read .1) allowed ∙ sym (accepted-reply input before allowed file accepted),
         )

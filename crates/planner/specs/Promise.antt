@@ -1,5 +1,5 @@
 -- The one promise of the planner: what `plan` replies and what it leaves in the buffer, for every input, buffer and allowance. Assumes nothing.
-use Prim.Native.Nat.{ℕ, _-_, _^_, _≤_, _<_}
+use Prim.Native.Nat.{ℕ, _-_, _≤_, _<_}
 use mathlib.Core.Path.{_≡_}
 use mathlib.Core.List.{List}
 use mathlib.Core.Logic.{_↔_, _⊎_}
@@ -9,9 +9,11 @@ use Rattle.rules.specs.Rules.{File}
 use Rattle.rules.specs.Meaning.{Plan, FirstPlan}
 use Rattle.rules.specs.Reading.{sound, reading}
 use Rattle.rules.specs.Writing.{fieldsOf}
+use Rattle.steps.specs.Boxes.{boxSize}
 use Rattle.steps.specs.FirstDead.{FirstDead}
 use Rattle.steps.specs.Rounds.{TakesRounds, roundsMost}
-use Rattle.steps.specs.Table.{startOf, needed, replyOf}
+use Rattle.steps.specs.Start.{startOf}
+use Rattle.steps.specs.Table.{needed, replyOf}
 use Rattle.steps.specs.Special.{special}
 use Rattle.searching.specs.declared.reply.Reply.{Reply}
 use Rattle.searching.specs.Answered.{Answered}
@@ -47,8 +49,8 @@ pub record Planned (input before after : List ℕ) (allowed : ℕ) (r : Reply) :
   pub unbegun : ((file : File) → Accepted input before allowed file → ⊥) → r .rounds ≡ 0
   -- UNDECIDED exactly if more splits are needed than were allowed.
   pub undecided : (file : File) → Accepted input before allowed file → (r .number ≡ 2) ↔ (allowed < needed file)
-  -- Demand 3. Splits never exceed n ^ v - 1.
-  pub bound : (file : File) → Accepted input before allowed file → r .splits ≤ file .n ^ file .v - 1
+  -- Demand 3. Splits never exceed the product of the starting sizes less one (R-6).
+  pub bound : (file : File) → Accepted input before allowed file → r .splits ≤ boxSize (startOf file) - 1
   -- The special kind with v or more splits allowed: NONE at no split, or a plan at no dead end, at no position higher than any other plan.
   pub ladder : (file : File) → Accepted input before allowed file → T (special file) → file .v ≤ allowed
       → ((r .number ≡ 1) × (r .splits ≡ 0))

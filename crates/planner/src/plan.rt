@@ -1,22 +1,12 @@
 // The one call that people rely on: a file of rules, a buffer for the answer and an allowance of
 // splits to the one reply that 01 lists. The contracts cite specs/Promise.antt.
-ghost use mathlib.Core.Path.{_≡_};
-ghost use lib.ListN.{replicate};
-ghost use Rattle.sets.specs.Sets.{full};
 ghost use Rattle.planner.specs.Promise.{Planned};
+use super::start::start_rooms;
 use searching::first::search_from;
 use searching::reply::Reply;
 use sets::Room;
 use sound::check::Checked;
 use sound::check::check;
-
-// The rooms at the start: {1..n} everywhere.
-pub(crate) fn start_rooms(n: u32) -> [u32; Room::POSITIONS]
-    ensures { λ r. ⌜ r ≡ replicate 64 (full n) ⌝ }
-{
-    let mask = Room::full(n).mask;
-    [mask; Room::POSITIONS]
-}
 
 // The one reply of 01's table for every input, every buffer length and every allowance: 10, 11, 12,
 // then the file's own refusals, then what the search finds, with the rounds of the first box. A plan's
@@ -39,7 +29,7 @@ pub fn plan(input: &[u8], answer: &mut [u8], allowance: u64) -> Reply
         Checked::Refused { number, place } => Reply::refused(number, place),
         Checked::Sound { positions, values } => {
             let v = positions as usize;
-            search_from(input, v, allowance, start_rooms(values), answer)
+            search_from(input, v, allowance, start_rooms(input, values), answer)
         }
     }
 }

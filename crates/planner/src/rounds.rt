@@ -6,7 +6,7 @@ ghost use lib.ListN.{take};
 ghost use Rattle.sets.specs.Sets.{count};
 ghost use Rattle.steps.specs.Boxes.{spareValues};
 ghost use Rattle.planner.specs.Most.{RoundsMost};
-use super::plan::start_rooms;
+use super::start::start_rooms;
 use sets::Room;
 use sound::check::Checked;
 use sound::check::check;
@@ -51,7 +51,7 @@ pub fn rounds_most(input: &[u8]) -> u64
     match checked {
         Checked::Refused { number, place } => 0,
         Checked::Sound { positions, values } => {
-            let rooms = start_rooms(values);
+            let rooms = start_rooms(input, values);
             spare_values(&rooms, positions as usize) + 1
         }
     }

@@ -1,5 +1,5 @@
-// Files with an equality of many positions or a clause of many atoms. Every byte that is not named
-// here is 1.
+// Files with an equality of many positions, a clause of many atoms or many starting sets. Every byte
+// that is not named here is 1.
 ghost use mathlib.Core.Path.{_≡_};
 ghost use lib.ListN.{length};
 use super::line::show;
@@ -10,6 +10,7 @@ pub(crate) fn all() {
     long_equality();
     long_clause();
     longest_file();
+    starting_sets();
 }
 
 // A file of 32,768 bytes: a header of v positions and 32 values, and the tag and the length of a field.
@@ -33,14 +34,14 @@ fn long_equality() {
     let mut file = started(64, 3, 0, 68);
     file[75] = 64;
     // Length 68.
-    show_front(174, &file, 76);
+    show_front(236, &file, 76);
     file[7] = 69;
     // Length 69, with position 1 at its end.
-    show_front(175, &file, 77);
+    show_front(237, &file, 77);
     file[7] = 68;
     file[75] = 65;
     // Length 68 again, with 65 as the last position.
-    show_front(176, &file, 76);
+    show_front(238, &file, 76);
 }
 
 // A clause of 260 bytes, a length that needs its high byte: 52 times position 1 with the same
@@ -48,17 +49,66 @@ fn long_equality() {
 fn long_clause() {
     let file = started(1, 2, 1, 4);
     // It ends with the clause.
-    show_front(177, &file, 268);
+    show_front(239, &file, 268);
     // One byte more, at a place above 255.
-    show_front(178, &file, 269);
+    show_front(240, &file, 269);
 }
 
 // A file of 32,768 bytes, the most that an input may have: a clause of 6552 atoms like those.
 fn longest_file() {
     let mut file = started(1, 2, 127, 248);
     // It is sound.
-    show(179, &file);
+    show(241, &file);
     file[32763] = 2;
     // Position 2 in its last atom, where v is 1.
-    show(180, &file);
+    show(242, &file);
+}
+
+// Writes a file of v 64 and n 1: starting sets of the positions 1 to 64, and behind them one more, of
+// position 1.
+fn write_started(file: &mut [u8]) {
+    for i in 0..file.len() {
+        write_byte(file, i);
+    }
+}
+
+// Writes the byte of that file at an index, where there is one.
+fn write_byte(file: &mut [u8], i: usize) {
+    if i < file.len() {
+        file[i] = started_byte(i);
+    }
+}
+
+// The byte of that file at an index: of the header, or of a starting set, which has 8 bytes.
+fn started_byte(i: usize) -> u8 {
+    let header = [1, 0, 2, 64, 1];
+    if i < 5 {
+        return header[i];
+    }
+    let behind = i - 5;
+    let place = behind % 8;
+    match place {
+        0 => 4,
+        2 => 5,
+        3 => (behind / 8 % 64 + 1) as u8,
+        7 => 1,
+        _ => 0,
+    }
+}
+
+// A starting set for every position, and one more, at place 517.
+fn starting_sets() {
+    let mut space = [0u8; 525];
+    let file: &mut [u8] = &mut space;
+    write_started(file);
+    // The 64 alone.
+    show_front(243, file, 517);
+    // A second one for position 1, the first of all.
+    show(244, file);
+    file[520] = 64;
+    // A second one for position 64, the one before it.
+    show(245, file);
+    file[524] = 0;
+    // The same with the empty set.
+    show(246, file);
 }

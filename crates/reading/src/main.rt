@@ -7,7 +7,7 @@
 // field is then at place 5.
 //
 // The file `stdout` beside src/ has the lines that are right. It was made by other means, by a
-// reader that was written from 01's text alone and that looks at values where the code looks at
+// reader that was written from the text of 01 and 02 alone and that looks at values where the code looks at
 // bits, so that it shows whether the proved contract of `check`, and the code compiled from it,
 // say what was meant.
 mod line;

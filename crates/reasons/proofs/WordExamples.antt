@@ -9,6 +9,15 @@ pub example-words : wordsOf 19 13 ≡ bytesOf "field at byte 13: a position that
 unfolding wordsOf placeOf faultOf faults newline decimal digits bytesOf
 example-words = refl
 
+-- those of a starting set (R-6), and nothing at a number that no reply has
+pub example-words-starting :
+    (wordsOf 26 13 ≡ bytesOf "field at byte 13: a starting set that is empty\n")
+    × (wordsOf 27 13 ≡ bytesOf "field at byte 13: a second starting set for its position\n")
+    × (faultOf 25 ≡ [])
+    × (faultOf 28 ≡ [])
+unfolding wordsOf placeOf faultOf faults newline decimal digits bytesOf
+example-words-starting = (refl, refl, refl, refl)
+
 -- a refusal that stands at no field
 pub example-words-start : wordsOf 14 0 ≡ bytesOf "the input is empty, or its first tag is not 1 (header)\n"
 unfolding wordsOf placeOf faultOf faults newline decimal digits bytesOf

@@ -9,7 +9,7 @@ use Rattle.texts.specs.declared.Text.{Text}
 use Rattle.texts.specs.Bytes.{bytesOf, decimal, newline}
 use Rattle.texts.specs.Grown.{lineOf}
 
--- what is wrong, for the refusals 10 to 20 of 01's table in turn
+-- what is wrong, for the refusals 10 to 27 in turn: those of 01's table, and 26 and 27 of document 02 (R-6); no reply has 21 to 25
 unfoldable pub faults : List (List ℕ)
 faults =
     bytesOf "the input is longer than 32768 bytes" ∷
@@ -23,9 +23,16 @@ faults =
     bytesOf "a number of channels that is not 1 to 64, or a number of relays that is not 1 to 32" ∷
     bytesOf "a position that is 0 or above the number of channels" ∷
     bytesOf "a set with a value above the number of relays" ∷
+    [] ∷
+    [] ∷
+    [] ∷
+    [] ∷
+    [] ∷
+    bytesOf "a starting set that is empty" ∷
+    bytesOf "a second starting set for its position" ∷
     []
 
--- what is wrong, by 01's number; nothing for any other
+-- what is wrong, by its number; nothing for any other
 unfoldable pub faultOf : ℕ → List ℕ
 faultOf number = cond (ltb number 10) [] (getD faults (number - 10) [])
 

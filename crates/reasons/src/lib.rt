@@ -7,8 +7,9 @@ ghost use Rattle.reasons.specs.Words.{around, faultOf, placeOf, wordsOf,
 use searching::reply::Reply;
 use texts::Text;
 
-// What is wrong at 10 to 20, in turn, one behind the other.
-const FAULTS: [u8; 504] = *b"\
+// What is wrong at 10 to 20, 26 and 27, in turn, one behind the other. No reply has 21 to 25, and nothing is
+// said of these.
+const FAULTS: [u8; 570] = *b"\
     the input is longer than 32768 bytes\
     the answer buffer is shorter than 64 bytes\
     the allowance is above 1000000 splits\
@@ -19,10 +20,32 @@ const FAULTS: [u8; 504] = *b"\
     a length that is wrong for the tag\
     a number of channels that is not 1 to 64, or a number of relays that is not 1 to 32\
     a position that is 0 or above the number of channels\
-    a set with a value above the number of relays";
+    a set with a value above the number of relays\
+    a starting set that is empty\
+    a second starting set for its position";
 
-// Where each begins, and where the last ends.
-const STARTS: [usize; 12] = [0, 36, 78, 115, 198, 252, 267, 290, 324, 407, 459, 504];
+// Where each of 10 to 27 begins, and where the last ends.
+const STARTS: [usize; 19] = [
+    0,
+    36,
+    78,
+    115,
+    198,
+    252,
+    267,
+    290,
+    324,
+    407,
+    459,
+    504,
+    504,
+    504,
+    504,
+    504,
+    504,
+    532,
+    570,
+];
 
 // A place with words around it more.
 fn around(text: Text, front: &[u8], place: usize, back: &[u8]) -> Text
@@ -51,7 +74,7 @@ fn fault(text: Text, number: u32) -> Text
     if number < 10 {
         return text;
     }
-    if 20 < number {
+    if 27 < number {
         return text;
     }
     let at = (number - 10) as usize;

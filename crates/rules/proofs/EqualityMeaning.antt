@@ -9,7 +9,7 @@ use Rattle.lists.proofs.TestLaws.{test-cases}
 use Rattle.sets.proofs.Sameness.{no-member-empty}
 use Rattle.sets.proofs.Values.{member-of-listed, listed-of-member}
 use Rattle.lists.specs.Lists.{Some, Every}
-use Rattle.rules.specs.Rules.{Rule, clause, equality}
+use Rattle.rules.specs.Rules.{Rule, clause, equality, starting}
 use Rattle.rules.specs.Meaning.{valueAt, MeetsAtom, Meets}
 use Rattle.rules.specs.Parts.{Part, oneOf, MeetsPart, atomIn, equalityParts, partsOf}
 use Rattle.lists.proofs.ListLaws.{some-of-listed, listed-of-some, every-of-listed, every-at, some-listed-twice, some-same, every-same, every-over-append, some-over-map, every-over-map, some-decided, every-decided}
@@ -72,16 +72,18 @@ equality-means-clauses a m ps h =
     second : Every (Takes a ps) (values m) ↔ Every (MeetsPart a) (map (λ x. oneOf (map (atomIn (single x)) ps)) (values m))
     second = each (Takes a ps) (λ x. oneOf (map (atomIn (single x)) ps)) (values m) (λ x t. takes-clause a ps x (member-range x m h (member-of-listed m x t)))
 
--- the set of an equality is a mask; a clause asks for nothing
+-- the set of an equality is a mask; the other rules ask for nothing
 abbrev pub MaskFits : Rule → Type 0
 MaskFits (clause atoms) = Unit {0}
 MaskFits (equality m ps) = m < 2 ^ 32
+MaskFits (starting atom) = Unit {0}
 
 -- a rule means its parts
 pub rule-means-parts : (a : List ℕ) (r : Rule) → MaskFits r → Meets a r ↔ Every (MeetsPart a) (partsOf r)
 unfolding partsOf
 rule-means-parts a (clause atoms) h = Iff·symm and-true
 rule-means-parts a (equality m ps) h = equality-means-clauses a m ps h
+rule-means-parts a (starting atom) h = (λ t. (inl t, tt), λ met. ⊎-elim (λ t. t) absurd (met .0))
 
 -- an equality of no values over no positions is met
 pub no-positions-empty : (a : List ℕ) → Meets a (equality 0 [])

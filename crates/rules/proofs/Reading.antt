@@ -5,3 +5,4 @@ pub mod FieldByField
 pub mod FieldsStand
 pub mod RefusalLaws
 pub mod WalkLaws
+pub mod StartExamples

@@ -7,7 +7,7 @@ use lib.ListN.{length, getD}
 use Rattle.sets.specs.Sets.{member}
 use Rattle.rules.specs.declared.field.Atom.{Atom}
 use Rattle.lists.specs.Lists.{Some, Every}
-use Rattle.rules.specs.Rules.{Rule, Field, File, clause, equality}
+use Rattle.rules.specs.Rules.{Rule, Field, File, clause, equality, starting}
 
 -- an assignment of v positions: the values of positions 1 to v in turn, each from 1 to n
 abbrev pub Assignment : ℕ → ℕ → List ℕ → Type 0
@@ -21,10 +21,11 @@ valueAt a p = getD a (p - 1) 0
 abbrev pub MeetsAtom : List ℕ → Atom → Type 0
 MeetsAtom a atom = member (valueAt a (atom .position)) (atom .set)
 
--- a clause is met if some atom is; an equality if the values taken by the named positions are exactly those of M
+-- a clause is met if some atom is; an equality if the values taken by the named positions are exactly those of M; a starting set if its position has a value in it
 abbrev pub Meets : List ℕ → Rule → Type 0
 Meets a (clause atoms) = Some (MeetsAtom a) atoms
 Meets a (equality m ps) = (x : ℕ) → member x m ↔ Some (λ p. valueAt a p ≡ x) ps
+Meets a (starting atom) = MeetsAtom a atom
 
 -- the assignment meets every rule
 abbrev pub MeetsAll : List ℕ → List Rule → Type 0

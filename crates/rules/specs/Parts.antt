@@ -4,7 +4,7 @@ use mathlib.Core.List.{List, [], _∷_, _++_, map}
 use Rattle.sets.specs.Sets.{single, values}
 use Rattle.rules.specs.declared.field.Atom.{Atom}
 use Rattle.lists.specs.Lists.{Some}
-use Rattle.rules.specs.Rules.{Rule, clause, equality}
+use Rattle.rules.specs.Rules.{Rule, clause, equality, starting}
 use Rattle.rules.specs.Meaning.{MeetsAtom}
 
 -- a part of a rule: one of these atoms
@@ -31,7 +31,8 @@ eachTaken m ps = map (λ x. oneOf (map (atomIn (single x)) ps)) (values m)
 unfoldable pub equalityParts : ℕ → List ℕ → List Part
 equalityParts m ps = eachInside m ps ++ eachTaken m ps
 
--- a clause is one part; an equality's parts are those above
+-- a clause is one part; an equality's parts are those above; a starting set is the clause of its one atom, which every room that lies inside it meets already
 unfoldable pub partsOf : Rule → List Part
 partsOf (clause atoms) = oneOf atoms ∷ []
 partsOf (equality m ps) = equalityParts m ps
+partsOf (starting a) = oneOf (a ∷ []) ∷ []

@@ -1,15 +1,15 @@
 -- Reading: from the bytes of a file to its rules, or to a refusal with its number and place. The contracts of `src/` cite these. Assumes nothing.
-use Prim.Native.Nat.{ℕ, zero, suc, _+_, _-_, _*_, _/_, _%_}
+use Prim.Native.Nat.{ℕ, zero, suc, _+_, _-_, _*_, _/_, _%_, _^_}
 use mathlib.Core.Bool.{Bool, true, false, not, _&&_}
 use mathlib.Core.List.{List, [], _∷_}
 use lib.Dec.{leb, ltb, eqb}
 use lib.ListN.{length, getD, take, drop}
-use Rattle.sets.specs.Sets.{full, inside}
+use Rattle.sets.specs.Sets.{isMember, union, full, inside, isEmpty}
 use Rattle.rules.specs.declared.field.Tag.{Tag}
-use Rattle.rules.specs.declared.field.Tag.the-variants.{Header, Clause, Equality, Unknown}
+use Rattle.rules.specs.declared.field.Tag.the-variants.{Header, Clause, Equality, Starting, Unknown}
 use Rattle.rules.specs.declared.field.Atom.{Atom}
 use Rattle.rules.specs.declared.field.Head.{Head}
-use Rattle.rules.specs.Rules.{Rule, File, clause, equality}
+use Rattle.rules.specs.Rules.{Rule, File, clause, equality, starting}
 
 -- ---- what the bytes of a field say
 
@@ -20,7 +20,7 @@ pickTag false a b = b
 
 -- the kind of field that a tag byte announces
 unfoldable pub tagOf : ℕ → Tag
-tagOf tag = pickTag (eqb tag 1) Header (pickTag (eqb tag 2) Clause (pickTag (eqb tag 3) Equality Unknown))
+tagOf tag = pickTag (eqb tag 1) Header (pickTag (eqb tag 2) Clause (pickTag (eqb tag 3) Equality (pickTag (eqb tag 4) Starting Unknown)))
 
 -- two bytes from `at` on as a number, high byte first
 unfoldable pub lengthAt : List ℕ → ℕ → ℕ
@@ -52,6 +52,7 @@ unfoldable pub ruleOf : Tag → ℕ → List ℕ → Rule
 ruleOf Header len bytes = clause []
 ruleOf Clause len bytes = clause (atomsOf (len / 5) bytes)
 ruleOf Equality len bytes = equality (setAt bytes 0) (take (len - 4) (drop 4 bytes))
+ruleOf Starting len bytes = starting (atomOf bytes)
 ruleOf Unknown len bytes = clause []
 
 -- whether a field of a kind may have so many bytes of content
@@ -59,6 +60,7 @@ unfoldable pub lengthFits : Tag → ℕ → Bool
 lengthFits Header len = eqb len 2
 lengthFits Clause len = eqb (len % 5) 0
 lengthFits Equality len = leb 4 len && leb len 68
+lengthFits Starting len = eqb len 5
 lengthFits Unknown len = false
 
 -- ---- faults: 01's number of the first that is found, and 0 where there is none
@@ -95,10 +97,15 @@ unfoldable pub positionsFault : ℕ → List ℕ → ℕ
 positionsFault v [] = 0
 positionsFault v (p ∷ ps) = orElse (positionFault v p) (positionsFault v ps)
 
--- the contents from left to right; in an equality 20 before 19
+-- 26: a starting set without a value
+unfoldable pub emptyFault : ℕ → ℕ
+emptyFault m = faultIf (isEmpty m) 26 λ _. 0
+
+-- the contents from left to right; in an equality 20 before 19, and of a starting set 26 last
 unfoldable pub ruleFault : ℕ → ℕ → Rule → ℕ
 ruleFault v n (clause atoms) = atomsFault v n atoms
 ruleFault v n (equality m ps) = orElse (setFault n m) (positionsFault v ps)
+ruleFault v n (starting a) = orElse (atomFault v n a) (emptyFault (a .set))
 
 -- the rule that a field's bytes hold
 unfoldable pub ruleAt : List ℕ → Rule
@@ -109,6 +116,7 @@ unfoldable pub tagFault : Tag → ℕ
 tagFault Header = 15
 tagFault Clause = 0
 tagFault Equality = 0
+tagFault Starting = 0
 tagFault Unknown = 16
 
 -- what stands behind the tag: the length (17), bytes missing (13), the content
@@ -144,6 +152,28 @@ headerFault bytes =
     faultIf (not (eqb (headOf bytes .tag) 1)) 14 λ _.
     headerBodyFault (headOf bytes .length) bytes
 
+-- ---- positions that have a starting set: the fields in front of one say which, as a set of positions
+
+-- the set with one position more
+unfoldable pub withPosition : ℕ → ℕ → ℕ
+withPosition p seen = union seen (2 ^ (p - 1))
+
+-- the positions seen once a rule has been read
+unfoldable pub seenWith : Rule → ℕ → ℕ
+seenWith (clause atoms) seen = seen
+seenWith (equality m ps) seen = seen
+seenWith (starting a) seen = withPosition (a .position) seen
+
+-- 27: a second starting set for a position, whatever it is
+unfoldable pub againFault : ℕ → Rule → ℕ
+againFault seen (clause atoms) = 0
+againFault seen (equality m ps) = 0
+againFault seen (starting a) = faultIf (isMember (a .position) seen) 27 λ _. 0
+
+-- the first fault of a field where these positions have a starting set: 27 after every other
+unfoldable pub faultAfter : ℕ → ℕ → ℕ → List ℕ → ℕ
+faultAfter v n seen bytes = orElse (fieldFault v n bytes) (againFault seen (ruleAt bytes))
+
 -- ---- the whole file
 
 -- what reading finds: a file, or a refusal with its number and place
@@ -165,16 +195,17 @@ withRule r (refused number place) = refused number place
 unfoldable pub sizeOf : List ℕ → ℕ
 sizeOf bytes = 3 + headOf bytes .length
 
--- The rules of the fields that the bytes from a place on are. Each takes 3 bytes or more, so as many steps as there are bytes are enough.
-unfoldable pub readFields : ℕ → ℕ → ℕ → ℕ → List ℕ → Reading
-readFields zero v n place bytes = sound (record { v = v; n = n; rules = [] })
-readFields (suc k) v n place [] = sound (record { v = v; n = n; rules = [] })
-readFields (suc k) v n place (b ∷ bs) =
-    refuseFor (fieldFault v n (b ∷ bs)) place λ _.
-    withRule (ruleAt (b ∷ bs)) (readFields k v n (place + sizeOf (b ∷ bs)) (drop (sizeOf (b ∷ bs)) (b ∷ bs)))
+-- The rules of the fields that the bytes from a place on are, where the positions seen have a starting set in front of it. Each field takes 3 bytes or more, so
+-- as many steps as there are bytes are enough.
+unfoldable pub readFields : ℕ → ℕ → ℕ → ℕ → ℕ → List ℕ → Reading
+readFields zero v n seen place bytes = sound (record { v = v; n = n; rules = [] })
+readFields (suc k) v n seen place [] = sound (record { v = v; n = n; rules = [] })
+readFields (suc k) v n seen place (b ∷ bs) =
+    refuseFor (faultAfter v n seen (b ∷ bs)) place λ _.
+    withRule (ruleAt (b ∷ bs)) (readFields k v n (seenWith (ruleAt (b ∷ bs)) seen) (place + sizeOf (b ∷ bs)) (drop (sizeOf (b ∷ bs)) (b ∷ bs)))
 
 -- the file that the bytes are
 unfoldable pub reading : List ℕ → Reading
 reading bytes =
     refuseFor (headerFault bytes) 0 λ _.
-    readFields (length bytes) (getD bytes 3 0) (getD bytes 4 0) 5 (drop 5 bytes)
+    readFields (length bytes) (getD bytes 3 0) (getD bytes 4 0) 0 5 (drop 5 bytes)

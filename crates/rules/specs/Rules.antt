@@ -3,10 +3,11 @@ use Prim.Native.Nat.{ℕ}
 use mathlib.Core.List.{List}
 use Rattle.rules.specs.declared.field.Atom.{Atom}
 
--- a rule: a clause of atoms, or a set M that the values of some positions must make up exactly
+-- a rule: a clause of atoms; a set M that the values of some positions must make up exactly; or a position and its starting set
 pub data Rule : Type 0 where
   clause : List Atom → Rule
   equality : ℕ → List ℕ → Rule
+  starting : Atom → Rule
 
 -- v positions, each with a value from 1 to n, and the rules in the order of the file
 pub record File : Type 0 where

@@ -8,10 +8,11 @@ use Rattle.rules.specs.Reading.{sound, readFields, reading}
 use Rattle.rules.specs.Writing.{placed}
 use Rattle.rules.specs.Sound.{fileOf}
 
--- from `at` on the bytes of the sound input s, a file of v positions, are the fields `left`
+-- from `at` on the bytes of the sound input s, a file of v positions, are the fields `left`; the positions seen have a starting set in front of them
 pub record Walk (s : List ℕ) (v at : ℕ) (left : List Field) : Type 0 where
   pub few : v ≤ 64
   pub within : at ≤ length s
+  pub seen : ℕ
   pub rules : List Rule
-  pub read : readFields (length s) v (fileOf (reading s) .n) at (drop at s) ≡ sound (record { v = v; n = fileOf (reading s) .n; rules = rules })
+  pub read : readFields (length s) v (fileOf (reading s) .n) seen at (drop at s) ≡ sound (record { v = v; n = fileOf (reading s) .n; rules = rules })
   pub fields : left ≡ placed at rules

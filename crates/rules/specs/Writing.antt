@@ -1,12 +1,14 @@
 -- Writing a file back to bytes, the places of its fields, and the limits of a file that can be read. Assumes nothing.
 use Prim.Native.Nat.{ℕ, _+_, _*_, _/_, _%_, _≤_, _<_}
+use mathlib.Core.Path.{_≡_}
 use mathlib.Core.List.{List, [], _∷_, _++_}
 use lib.Dec.{T}
 use lib.ListN.{length}
-use Rattle.sets.specs.Sets.{full, inside}
+use Rattle.sets.specs.Sets.{member, full, inside}
 use Rattle.rules.specs.declared.field.Atom.{Atom}
 use Rattle.lists.specs.Lists.{Every}
-use Rattle.rules.specs.Rules.{Rule, Field, File, clause, equality}
+use Rattle.rules.specs.Rules.{Rule, Field, File, clause, equality, starting}
+use Rattle.rules.specs.Reading.{seenWith}
 
 -- a length as two bytes, high byte first
 unfoldable pub twoBytes : ℕ → List ℕ
@@ -29,11 +31,13 @@ framed tag content = tag ∷ twoBytes (length content) ++ content
 unfoldable pub tagByte : Rule → ℕ
 tagByte (clause atoms) = 2
 tagByte (equality m ps) = 3
+tagByte (starting a) = 4
 
 -- the content of a rule's field
 unfoldable pub contentBytes : Rule → List ℕ
 contentBytes (clause atoms) = writtenAtoms atoms
 contentBytes (equality m ps) = fourBytes m ++ ps
+contentBytes (starting a) = writtenAtoms (a ∷ [])
 
 -- a rule's field
 unfoldable pub writtenRule : Rule → List ℕ
@@ -69,13 +73,30 @@ PositionFits v p = (1 ≤ p) × (p ≤ v)
 abbrev pub SetFits : ℕ → ℕ → Type 0
 SetFits n m = T (inside m (full n))
 
--- positions are 1 to v, sets lie within {1..n}, and the length fits two bytes, in an equality 4 to 68
-abbrev pub RuleFits : ℕ → ℕ → Rule → Type 0
-RuleFits v n (clause atoms) = (length atoms * 5 < 65536) × Every (λ a. PositionFits v (a .position) × SetFits n (a .set)) atoms
-RuleFits v n (equality m ps) = (length ps ≤ 64) × SetFits n m × Every (PositionFits v) ps
+-- an atom is on a position 1 to v, and its set lies within {1..n}
+abbrev pub AtomFits : ℕ → ℕ → Atom → Type 0
+AtomFits v n a = PositionFits v (a .position) × SetFits n (a .set)
 
--- a file within the limits: v 1 to 64, n 1 to 32, and every rule
+-- positions are 1 to v, sets lie within {1..n}, a starting set has a value, and the length fits two bytes, in an equality 4 to 68
+abbrev pub RuleFits : ℕ → ℕ → Rule → Type 0
+RuleFits v n (clause atoms) = (length atoms * 5 < 65536) × Every (AtomFits v n) atoms
+RuleFits v n (equality m ps) = (length ps ≤ 64) × SetFits n m × Every (PositionFits v) ps
+RuleFits v n (starting a) = AtomFits v n a × (a .set ≡ 0 → ⊥)
+
+-- the rule is no starting set of a position seen
+abbrev pub Unseen : ℕ → Rule → Type 0
+Unseen seen (clause atoms) = Unit {0}
+Unseen seen (equality m ps) = Unit {0}
+Unseen seen (starting a) = member (a .position) seen → ⊥
+
+-- no position has two starting sets, and none of those seen has one more
+abbrev pub OneStart : ℕ → List Rule → Type 0
+OneStart seen [] = Unit {0}
+OneStart seen (r ∷ rs) = Unseen seen r × OneStart (seenWith r seen) rs
+
+-- a file within the limits: v 1 to 64, n 1 to 32, every rule, and at most one starting set for a position
 pub record Within (file : File) : Type 0 where
   pub positions : (1 ≤ file .v) × (file .v ≤ 64)
   pub values : (1 ≤ file .n) × (file .n ≤ 32)
   pub rules : Every (RuleFits (file .v) (file .n)) (file .rules)
+  pub starts : OneStart 0 (file .rules)

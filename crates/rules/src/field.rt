@@ -11,6 +11,7 @@ pub enum Tag {
     Header,
     Clause,
     Equality,
+    Starting,
     Unknown,
 }
 
@@ -26,7 +27,7 @@ pub struct Head {
     pub length: usize,
 }
 
-// The decision over the tag byte. Tags 1, 2 and 3 are known.
+// The decision over the tag byte. Tags 1 to 4 are known.
 pub fn tag_of(tag: u8) -> Tag
     ensures { λ r. ⌜ TagOf tag r ⌝ }
 {
@@ -34,7 +35,8 @@ pub fn tag_of(tag: u8) -> Tag
         1 => Tag::Header,
         2 => Tag::Clause,
         3 => Tag::Equality,
-        0 | 4..=255 => Tag::Unknown,
+        4 => Tag::Starting,
+        0 | 5..=255 => Tag::Unknown,
     }
 }
 

@@ -8,3 +8,4 @@ pub mod Smallest
 pub mod Kept
 pub mod Unique
 pub mod Unions
+pub mod MarkLaws

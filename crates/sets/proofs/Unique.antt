@@ -1,8 +1,8 @@
--- Any two results that a promise allows are equal, for each function of `src/lib.rt`. Assumes nothing.
+-- Any two results that a promise allows are equal, for each function of `src/`. Assumes nothing.
 use mathlib.Core.Path.{_≡_, sym, _∙_}
 use mathlib.Core.Bool.{Bool}
 use Prim.Native.Nat.{ℕ}
-use Rattle.sets.specs.Promise.{Full, Single, Union, Common, Inside, Complement, Count, Smallest, Others}
+use Rattle.sets.specs.Promise.{Full, Single, Union, Common, Inside, Complement, Count, Smallest, Others, Marked, Marks}
 
 -- a promise that names its result allows one result
 pub one-result {ℓ} : {A : Type ℓ} {e r s : A} → r ≡ e → s ≡ e → r ≡ s
@@ -34,3 +34,9 @@ smallest-unique p q = one-result (p .result) (q .result)
 
 pub others-unique : {m r s : ℕ} → Others m r → Others m s → r ≡ s
 others-unique p q = one-result (p .result) (q .result)
+
+pub marked-unique : {marks p : ℕ} {r s : Bool} → Marked marks p r → Marked marks p s → r ≡ s
+marked-unique p q = one-result (p .result) (q .result)
+
+pub marks-unique : {marks p r s : ℕ} → Marks marks p r → Marks marks p s → r ≡ s
+marks-unique p q = one-result (p .result) (q .result)

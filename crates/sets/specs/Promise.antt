@@ -1,4 +1,4 @@
--- What each function of `src/lib.rt` promises. `result` says which number comes back, for every input; the other fields say what it means, by
+-- What each function of `src/` promises. `result` says which number comes back, for every input; the other fields say what it means, by
 -- `member` alone. Assumes nothing.
 use Prim.Native.Nat.{ℕ, zero, suc, _+_, _≤_, _<_}
 use mathlib.Core.Path.{_≡_}
@@ -6,6 +6,7 @@ use mathlib.Core.Logic.{_↔_, _⊎_}
 use mathlib.Core.Bool.{Bool, true, false}
 use lib.Dec.{T}
 use Rattle.sets.specs.Sets.{isMember, member, full, single, union, common, inside, complement, count, smallest, others}
+use Rattle.sets.specs.Marks.{isMarked, withMark}
 
 -- r is the set {1..n}, or empty where n is above 32
 pub record Full (n r : ℕ) : Type 0 where
@@ -62,3 +63,15 @@ pub record Smallest (m r : ℕ) : Type 0 where
 pub record Others (m r : ℕ) : Type 0 where
   pub result : r ≡ others m
   pub members : (x : ℕ) → member x r ↔ (member x m × ((y : ℕ) × member y m × (y < x)))
+
+-- ---- marks on positions
+
+-- r says whether the position at index p is in the set of the marks
+pub record Marked (marks p : ℕ) (r : Bool) : Type 0 where
+  pub result : r ≡ isMarked p marks
+  pub members : T r ↔ member (suc p) marks
+
+-- r has the positions of the marks, and the one at index p
+pub record Marks (marks p r : ℕ) : Type 0 where
+  pub result : r ≡ withMark p marks
+  pub members : (x : ℕ) → member x r ↔ (member x marks ⊎ (x ≡ suc p))

@@ -2,6 +2,8 @@
 // The contracts cite specs/Sets.antt (what each result is) and specs/Promise.antt (what it means).
 ghost use Rattle.sets.specs.Promise.{Full, Single, Union, Common, Inside, Complement, Count, Smallest, Others};
 
+pub mod marks;
+
 // A set of values: the lowest bit of the mask stands for value 1, the highest for value 32.
 pub struct Room {
     pub mask: u32,

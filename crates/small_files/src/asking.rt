@@ -13,8 +13,8 @@ use planner::plan::plan;
 use searching::reply::Reply;
 
 // Calls the planner with an answer buffer of a length and an allowance, and counts the reply, which is
-// then the one that was seen last. The program calls the planner nowhere else, so that no reply is
-// left out.
+// then the one that was seen last. The program has its replies from nowhere else, so that none is left
+// out.
 pub(crate) fn ask(tally: Tally, file: &[u8], length: usize, allowance: u64) -> Tally
     requires { ⌜ length ≤ 68 ⌝ }
 {

@@ -2,7 +2,8 @@
 //
 // An assignment has the same form, so that it can be compared with what a plan leaves: the values of
 // positions 1 to v, and blanks behind them.
-ghost use Prim.Native.Nat.{_≤_, _<_};
+ghost use Prim.Native.Nat.{_<_};
+use super::starting::has;
 
 // What stands in every byte before a call. It is no value of a plan.
 pub const BLANK: u8 = 238;
@@ -12,25 +13,12 @@ pub(crate) fn blank() -> [u8; 68] {
     [BLANK; 68]
 }
 
-// The first assignment in dictionary order: value 1 for positions 1 to v.
-pub(crate) fn ones(v: usize) -> [u8; 68]
-    requires { ⌜ v ≤ 64 ⌝ }
-{
-    let mut bytes = blank();
-    let mut i = 0;
-    while i < v {
-        bytes[i] = 1;
-        i += 1;
-    }
-    bytes
-}
-
-// Whether the bytes are an assignment: values from 1 to n for positions 1 to v, and blanks behind
-// them.
-pub(crate) fn is_assignment(bytes: &[u8; 68], v: usize, n: usize) -> bool {
+// Whether the bytes are an assignment inside the starting sets: a starting value for each position that has
+// any, which are positions 1 to v, and blanks behind them.
+pub(crate) fn is_assignment(bytes: &[u8; 68], sets: &[usize; 64]) -> bool {
     let mut i = 0;
     while i < 68 {
-        if !fits(bytes[i], i < v, n) {
+        if !fits(bytes[i], set_at(sets, i)) {
             return false;
         }
         i += 1;
@@ -38,12 +26,17 @@ pub(crate) fn is_assignment(bytes: &[u8; 68], v: usize, n: usize) -> bool {
     true
 }
 
-// Whether a byte fits: a value from 1 to n where one is wanted, and otherwise a blank.
-fn fits(byte: u8, wanted: bool, n: usize) -> bool {
-    if !wanted {
+// The starting set at an index, and the empty set where there is none.
+fn set_at(sets: &[usize; 64], i: usize) -> usize {
+    if i < 64 { sets[i] } else { 0 }
+}
+
+// Whether a byte fits: a value of a set, or a blank where that is empty.
+fn fits(byte: u8, set: usize) -> bool {
+    if set == 0 {
         return byte == BLANK;
     }
-    1 <= byte && wide(byte) <= n
+    has(set, wide(byte))
 }
 
 // Whether all bytes are the same.

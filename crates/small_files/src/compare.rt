@@ -1,5 +1,5 @@
 // What the replies to one file are compared with.
-ghost use Prim.Native.Nat.{_≤_, _<_};
+ghost use Prim.Native.Nat.{_≤_};
 use super::asking::ask;
 use super::buffer::blank;
 use super::buffer::is_assignment;
@@ -8,19 +8,26 @@ use super::meaning::Found;
 use super::meaning::assignments;
 use super::meaning::first;
 use super::meaning::meets;
-use super::reading::is_field;
+use super::reading::is_rule;
 use super::reading::positions;
 use super::reading::sound;
 use super::reading::values;
+use super::special::is_claimed;
+use super::special::is_special;
+use super::starting::most_rounds;
+use super::starting::starting_sets;
+use super::tally::SPECIAL;
 use super::tally::Seen;
 use super::tally::Tally;
+use super::tally::add;
 use super::tally::expect;
+use planner::rounds::rounds_most;
 
 // The largest allowance that is not refused.
 pub const MOST: u64 = 1_000_000;
 
 // The allowance for a file with more assignments than are gone through.
-const FEW: u64 = 30;
+pub const FEW: u64 = 30;
 
 // Whether a reply has a number and a place, and these bytes after the call.
 fn is(seen: Seen, number: usize, place: usize, bytes: &[u8; 68]) -> bool {
@@ -33,11 +40,11 @@ fn is_plan(seen: Seen, assignment: &[u8; 68]) -> bool {
     is(seen, 0, 0, assignment) && seen.dead_ends <= seen.splits
 }
 
-// Whether a NONE to a file has its place: with no split that of a field, and else 0 (02, R-3). Which
-// field it is, is in the checksum.
+// Whether a NONE to a file has its place: with no split that of a clause or an equality, and else 0 (02,
+// R-3; a starting set is never dead, R-6). Which field it is, is in the checksum.
 fn has_place(seen: Seen, file: &[u8]) -> bool {
     if seen.splits == 0 {
-        is_field(file, seen.place)
+        is_rule(file, seen.place)
     } else {
         seen.place == 0
     }
@@ -75,44 +82,38 @@ pub(crate) fn agree(a: Seen, b: Seen) -> bool {
         && a.rounds == b.rounds
 }
 
-// Whether the reply is a refusal from 13 to 20, with a place in a file of a length and with nothing
-// counted and nothing written.
+// Whether a number is that of a refusal of a file: 13 to 20, and 26 and 27 of starting sets.
+fn is_fault_number(number: usize) -> bool {
+    match number {
+        13..=20 | 26 | 27 => true,
+        _ => false,
+    }
+}
+
+// Whether the reply is a refusal of a file, with a place in a file of a length and with nothing counted
+// and nothing written.
 fn is_fault(seen: Seen, length: usize) -> bool {
-    if seen.number < 13 || 20 < seen.number {
+    if !is_fault_number(seen.number) {
         return false;
     }
     let left = seen.bytes;
     seen.place <= length && no_counts(seen) && same(&left, &blank())
 }
 
-// Compares the reply to a file that is not sound: a refusal.
+// Compares the reply to a file that is not sound: a refusal. The most rounds of such a file are 0.
 fn unsound(tally: Tally, file: &[u8]) -> Tally {
     let asked = ask(tally, file, 64, MOST);
-    let right = is_fault(asked.seen, file.len());
+    let right = is_fault(asked.seen, file.len()) && rounds_most(file) == 0;
     expect(asked, right, b"not refused:", file)
 }
 
-// The most rounds of a first box: the sum over positions of starting size less one, plus one (02, R-10).
-// 1 where n is 0, as it is in no sound file.
-fn most_rounds(v: usize, n: usize) -> usize
-    requires { ⌜ (v ≤ 64) × (n < 256) ⌝ }
+// Whether the reply to a sound file has rounds: one at least, and no more than the most, which are told
+// before the search. How many they are is in the checksum.
+fn has_rounds(seen: Seen, file: &[u8], sets: &[usize; 64], v: usize) -> bool
+    requires { ⌜ v ≤ 64 ⌝ }
 {
-    let mut most = 1;
-    if n < 1 {
-        return most;
-    }
-    for _ in 0..v {
-        most += n - 1;
-    }
-    most
-}
-
-// Whether the reply to a sound file has rounds: one at least, and no more than the most. How many they
-// are is in the checksum.
-fn has_rounds(seen: Seen, v: usize, n: usize) -> bool
-    requires { ⌜ (v ≤ 64) × (n < 256) ⌝ }
-{
-    1 <= seen.rounds && seen.rounds <= most_rounds(v, n) as u64
+    let most = most_rounds(sets, v) as u64;
+    1 <= seen.rounds && seen.rounds <= most && rounds_most(file) == most
 }
 
 // Whether the reply to a file is what the enumeration found.
@@ -127,34 +128,51 @@ fn is_found(seen: Seen, right: Found, file: &[u8]) -> bool {
 
 // Compares the reply to a sound file with what the enumeration finds. There are never as many splits
 // as assignments.
-fn enumerated(tally: Tally, file: &[u8], v: usize, n: usize) -> Tally
-    requires { ⌜ (v ≤ 64) × (n < 256) ⌝ }
+fn enumerated(tally: Tally, file: &[u8], sets: &[usize; 64], v: usize, n: usize) -> Tally
+    requires { ⌜ v ≤ 64 ⌝ }
 {
-    let right = first(file, v, n);
+    let right = first(file, sets, v, n);
     let asked = ask(tally, file, 64, MOST);
     let agrees = is_found(asked.seen, right, file)
-        && asked.seen.splits < assignments(v, n)
-        && has_rounds(asked.seen, v, n);
+        && asked.seen.splits < assignments(sets, v)
+        && has_rounds(asked.seen, file, sets, v);
     expect(asked, agrees, b"not as enumerated:", file)
 }
 
 // Whether the reply is a plan that meets all rules, NONE, or UNDECIDED with all of the few splits
 // used.
-fn is_possible(seen: Seen, file: &[u8], v: usize, n: usize) -> bool {
+fn is_possible(seen: Seen, file: &[u8], sets: &[usize; 64], n: usize) -> bool {
     let left = seen.bytes;
     if is_none(seen, file) || is_undecided(seen, FEW) {
         return true;
     }
-    is_plan(seen, &left) && is_assignment(&left, v, n) && meets(file, &left, n)
+    is_plan(seen, &left) && is_assignment(&left, sets) && meets(file, &left, n)
 }
 
 // Compares the reply to a sound file with too many assignments: a plan has to meet all rules.
-fn too_many(tally: Tally, file: &[u8], v: usize, n: usize) -> Tally
-    requires { ⌜ (v ≤ 64) × (n < 256) ⌝ }
+fn too_many(tally: Tally, file: &[u8], sets: &[usize; 64], v: usize, n: usize) -> Tally
+    requires { ⌜ v ≤ 64 ⌝ }
 {
     let asked = ask(tally, file, 64, FEW);
-    let right = is_possible(asked.seen, file, v, n) && has_rounds(asked.seen, v, n);
+    let right = is_possible(asked.seen, file, sets, n) && has_rounds(asked.seen, file, sets, v);
     expect(asked, right, b"not met:", file)
+}
+
+// Compares the reply that was seen last, to a file of the special kind, with what demand 3 claims of it; a
+// file of another kind is left aside.
+fn claimed(tally: Tally, file: &[u8], sets: &[usize; 64], v: usize, n: usize) -> Tally
+    requires { ⌜ v ≤ 64 ⌝ }
+{
+    if !is_special(file, sets, v) {
+        return tally;
+    }
+    let right = is_claimed(tally.seen, file, sets, v, n);
+    expect(
+        add(tally, SPECIAL, 1),
+        right,
+        b"not as claimed of the special kind:",
+        file,
+    )
 }
 
 // Compares the reply to any bytes, sound or not.
@@ -170,9 +188,11 @@ pub(crate) fn judge(tally: Tally, file: &[u8]) -> Tally {
 pub(crate) fn judge_sound(tally: Tally, file: &[u8]) -> Tally {
     let v = positions(file);
     let n = values(file);
-    if assignments(v, n) <= 4096 {
-        enumerated(tally, file, v, n)
+    let sets = starting_sets(file, v, n);
+    let compared = if assignments(&sets, v) <= 4096 {
+        enumerated(tally, file, &sets, v, n)
     } else {
-        too_many(tally, file, v, n)
-    }
+        too_many(tally, file, &sets, v, n)
+    };
+    claimed(compared, file, &sets, v, n)
 }

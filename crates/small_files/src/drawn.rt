@@ -1,24 +1,30 @@
 // The pseudo-random files.
-ghost use Prim.Native.Nat.{_≤_};
+ghost use Prim.Native.Nat.{_≤_, _<_};
 ghost use lib.ListN.{length};
 use super::buffer::wide;
 use super::chance::draw;
 use super::chance::one_in_four;
+use super::reading::start_of;
+use super::starting::one_if;
 use super::writing::close;
 use super::writing::header;
 use super::writing::item;
 use super::writing::start;
 
 // What files are drawn: the numbers of positions and of values, how many fields there are at most,
-// how many of eight fields are equalities, how many atoms a clause has at least, and in how many of
-// four draws a value is put into a set.
+// how many of eight fields are equalities and how many are starting sets, how many atoms a clause has at
+// least, and in how many of four draws a value is put into a set, a value is put into a starting set, and
+// a set is near {1..b}.
 pub struct Shape {
     pub v: u8,
     pub n: u8,
     pub fields: u8,
     pub equalities: u8,
+    pub starts: u8,
     pub atoms: u8,
     pub density: u8,
+    pub fitted: u8,
+    pub ladders: u8,
 }
 
 // The numbers of positions and of values and the most fields of files of more positions or more
@@ -38,8 +44,11 @@ fn sized(state: &mut usize, least_v: u8, more_v: u8, least_n: u8, more_n: u8) ->
         n,
         fields: 0,
         equalities: 0,
+        starts: 0,
         atoms: 1,
         density: 2,
+        fitted: 2,
+        ladders: 0,
     }
 }
 
@@ -83,18 +92,54 @@ fn large(state: &mut usize) -> Shape {
         n: VALUES[row],
         fields: FIELDS[row],
         equalities: 2,
+        starts: 0,
         atoms: 2,
         density,
+        fitted: 2,
+        ladders: 0,
     }
+}
+
+// A file of all kinds of fields and of starting sets.
+fn started(state: &mut usize) -> Shape {
+    let mut shape = sized(state, 1, 4, 2, 5);
+    shape.fields = 8;
+    shape.equalities = 1;
+    shape.starts = 3;
+    shape
+}
+
+// A file of clauses and starting sets, which is often of the special kind.
+fn laddered(state: &mut usize) -> Shape {
+    let mut shape = sized(state, 2, 3, 3, 4);
+    shape.fields = 9;
+    shape.starts = 3;
+    shape.fitted = 3;
+    shape.ladders = 3;
+    shape
+}
+
+// A file of many values, of which the starting sets leave a few. It may have more assignments than are
+// gone through.
+fn sparse(state: &mut usize) -> Shape {
+    let mut shape = sized(state, 3, 4, 8, 25);
+    shape.fields = 10;
+    shape.equalities = 1;
+    shape.starts = 4;
+    shape.fitted = 1;
+    shape
 }
 
 // What file of a family comes next.
 fn shape_of(state: &mut usize, family: usize) -> Shape {
     match family {
-        6 => small(state),
-        7 => clauses(state),
-        8 => equalities(state),
-        _ => large(state),
+        8 => small(state),
+        9 => clauses(state),
+        10 => equalities(state),
+        11 => large(state),
+        12 => started(state),
+        13 => laddered(state),
+        _ => sparse(state),
     }
 }
 
@@ -112,11 +157,39 @@ pub(crate) fn write(file: &mut [u8], state: &mut usize, family: usize) -> usize
     at
 }
 
-// Writes an equality or a clause.
+// Writes a starting set, an equality or a clause.
 fn write_field(file: &mut [u8], at: usize, state: &mut usize, shape: Shape) -> usize
+    requires { ⌜ at ≤ length (now file) ⌝ }
     ensures { λ r. ⌜ r ≤ length (now (file .entry)) ⌝ }
 {
     let tag = tag_of(state, shape);
+    if tag == 4 {
+        write_start(file, at, state, shape)
+    } else {
+        write_items(file, at, state, shape, tag)
+    }
+}
+
+// Writes a starting set, and nothing where its position has one already.
+fn write_start(file: &mut [u8], at: usize, state: &mut usize, shape: Shape) -> usize
+    requires { ⌜ at ≤ length (now file) ⌝ }
+    ensures { λ r. ⌜ r ≤ length (now (file .entry)) ⌝ }
+{
+    let position = draw(state, wide(shape.v)) + 1;
+    let values = fitted(state, wide(shape.n), wide(shape.fitted));
+    if start_of(&file[..at], position) != 0 {
+        return at;
+    }
+    let end = start(file, at, 4, 0);
+    let end = item(file, end, 4, position, values);
+    close(file, at, end);
+    end
+}
+
+// Writes an equality or a clause.
+fn write_items(file: &mut [u8], at: usize, state: &mut usize, shape: Shape, tag: usize) -> usize
+    ensures { λ r. ⌜ r ≤ length (now (file .entry)) ⌝ }
+{
     let values = values_if(state, shape, tag == 3);
     let mut left = items(state, shape, tag);
     let mut end = start(file, at, tag, values);
@@ -128,10 +201,14 @@ fn write_field(file: &mut [u8], at: usize, state: &mut usize, shape: Shape) -> u
     end
 }
 
-// The tag of an equality or of a clause.
+// The tag of an equality, of a starting set or of a clause.
 fn tag_of(state: &mut usize, shape: Shape) -> usize {
-    if draw(state, 8) < wide(shape.equalities) {
-        3
+    let kind = draw(state, 8);
+    if kind < wide(shape.equalities) {
+        return 3;
+    }
+    if kind < wide(shape.equalities) + wide(shape.starts) {
+        4
     } else {
         2
     }
@@ -160,10 +237,14 @@ fn write_item(file: &mut [u8], at: usize, state: &mut usize, shape: Shape, tag: 
 
 // A set of values where one is wanted, and otherwise the empty one.
 fn values_if(state: &mut usize, shape: Shape, wanted: bool) -> usize {
-    if wanted {
-        values(state, wide(shape.n), wide(shape.density))
+    if !wanted {
+        return 0;
+    }
+    let n = wide(shape.n);
+    if one_in_four(state, wide(shape.ladders)) == 1 {
+        ladder(state, n)
     } else {
-        0
+        values(state, n, wide(shape.density))
     }
 }
 
@@ -174,6 +255,42 @@ fn values(state: &mut usize, n: usize, density: usize) -> usize {
     while left > 0 {
         left -= 1;
         mask = mask % 2147483648 * 2 + one_in_four(state, density);
+    }
+    mask
+}
+
+// A set of one value at least from 1 to n, where n is not 0: a value that is drawn for it, and others.
+fn fitted(state: &mut usize, n: usize, density: usize) -> usize {
+    let sure = draw(state, n) + 1;
+    let mut mask = 0;
+    let mut left = n;
+    while left > 0 {
+        let more = sure_or_drawn(state, left == sure, density);
+        left -= 1;
+        mask = mask % 2147483648 * 2 + more;
+    }
+    mask
+}
+
+// 1 where that is sure, and otherwise 1 in so many of four draws.
+fn sure_or_drawn(state: &mut usize, sure: bool, times: usize) -> usize
+    ensures { λ r. ⌜ r ≤ 1 ⌝ }
+{
+    if sure { 1 } else { one_in_four(state, times) }
+}
+
+// A set {1..b}, in which about every second time one value is changed: taken out, or put in.
+fn ladder(state: &mut usize, n: usize) -> usize
+    requires { ⌜ n < 256 ⌝ }
+{
+    let b = draw(state, n + 1);
+    let changed = draw(state, n + n + 1);
+    let mut mask = 0;
+    let mut left = n;
+    while left > 0 {
+        let more = one_if((left <= b) != (left == changed));
+        left -= 1;
+        mask = mask % 2147483648 * 2 + more;
     }
     mask
 }

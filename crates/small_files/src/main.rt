@@ -1,11 +1,11 @@
 // Tries the planner on many small rule files, systematic and pseudo-random, sound and damaged. Every
 // plan, and that there is none, is compared with an enumeration of all assignments. It prints how
-// many files there were, how many replies of each kind, the sums of what the replies say, a checksum
+// many files there were and how many were of demand 3's special kind, how many replies of each kind, the sums of what the replies say, a checksum
 // of all replies, and how many differences there were; the bytes of the first file with a difference
 // come before that.
 //
-// The enumeration, and the test whether a file is sound, are written from 01 alone and share nothing
-// with the planner but the bytes. The file `stdout` beside src/ has the lines that are right. It was
+// The enumeration, and the tests whether a file is sound and of the special kind, are written from 01 and 02
+// alone and share nothing with the planner but the bytes. The file `stdout` beside src/ has the lines that are right. It was
 // made by other means, by a model that was written from 01 and 02: it makes the same files and
 // the same calls, and for each call the refusal, or the splits and the dead ends of the search and the
 // rounds of its first box, from sets of values.
@@ -23,6 +23,8 @@ mod drawn;
 mod limits;
 mod meaning;
 mod reading;
+mod special;
+mod starting;
 mod systematic;
 mod tally;
 mod trying;

@@ -1,13 +1,14 @@
 // The first assignment that meets all rules of a sound file, found by going through all assignments
-// in dictionary order. Written from 01's section "What rules mean" alone; nothing of the planner is
-// used.
-ghost use Prim.Native.Nat.{_≤_, _<_};
-use super::buffer::ones;
+// inside its starting sets in dictionary order. Written from 01's section "What rules mean" and 02's R-6
+// alone; nothing of the planner is used.
+ghost use Prim.Native.Nat.{_≤_};
+use super::buffer::blank;
 use super::buffer::wide;
 use super::reading::behind_atom;
 use super::reading::byte;
 use super::reading::contains;
 use super::reading::next_field;
+use super::starting::next_value;
 
 // The value of a position, and 0 where there is no such position.
 fn value_of(assignment: &[u8; 68], position: usize) -> usize {
@@ -65,16 +66,16 @@ fn equality_met(content: &[u8], assignment: &[u8; 68], n: usize) -> bool {
     true
 }
 
-// Whether an assignment meets the rule of one field.
+// Whether an assignment meets the rule of one field. A starting set is met as a clause of one atom is.
 fn field_met(field: &[u8], assignment: &[u8; 68], n: usize) -> bool {
     if field.len() < 3 {
         return false;
     }
     let content = &field[3..];
-    if byte(field, 0) == 2 {
-        clause_met(content, assignment)
-    } else {
+    if byte(field, 0) == 3 {
         equality_met(content, assignment, n)
+    } else {
+        clause_met(content, assignment)
     }
 }
 
@@ -91,32 +92,49 @@ pub(crate) fn meets(file: &[u8], assignment: &[u8; 68], n: usize) -> bool {
     true
 }
 
+// The smallest value of a set above a value as a byte, and 0 where there is none.
+fn byte_above(set: usize, value: usize) -> u8 {
+    (next_value(set, value) % 256) as u8
+}
+
+// The first assignment in dictionary order: the smallest starting value for positions 1 to v.
+pub(crate) fn lowest(sets: &[usize; 64], v: usize) -> [u8; 68]
+    requires { ⌜ v ≤ 64 ⌝ }
+{
+    let mut assignment = blank();
+    for i in 0..v {
+        assignment[i] = byte_above(sets[i], 0);
+    }
+    assignment
+}
+
 // Goes on to the next assignment in dictionary order, as a counter does: the last position is the
 // fastest. From the last assignment it goes to the first one, and answers false.
-fn advance(assignment: &mut [u8; 68], v: usize, n: usize) -> bool
+pub(crate) fn advance(assignment: &mut [u8; 68], sets: &[usize; 64], v: usize) -> bool
     requires { ⌜ v ≤ 64 ⌝ }
 {
     let mut i = v;
     while i > 0 {
         i -= 1;
-        let value = wide(assignment[i]);
-        if value < n {
-            assignment[i] = ((value + 1) % 256) as u8;
+        let next = byte_above(sets[i], wide(assignment[i]));
+        if 0 < next {
+            assignment[i] = next;
             return true;
         }
-        assignment[i] = 1;
+        assignment[i] = byte_above(sets[i], 0);
     }
     false
 }
 
-// The number of assignments, found by counting them, and 4,097 where there are more than 4,096.
-pub(crate) fn assignments(v: usize, n: usize) -> u64
+// The number of assignments inside the starting sets, which is the product of their sizes, found by
+// counting them; 4,097 where there are more than 4,096.
+pub(crate) fn assignments(sets: &[usize; 64], v: usize) -> u64
     requires { ⌜ v ≤ 64 ⌝ }
 {
-    let mut assignment = ones(v);
+    let mut assignment = lowest(sets, v);
     let mut count = 1;
     while count <= 4096 {
-        if !advance(&mut assignment, v, n) {
+        if !advance(&mut assignment, sets, v) {
             return count;
         }
         count += 1;
@@ -131,10 +149,10 @@ pub struct Found {
 }
 
 // The first of the first 4,096 assignments that meets every field.
-pub(crate) fn first(file: &[u8], v: usize, n: usize) -> Found
+pub(crate) fn first(file: &[u8], sets: &[usize; 64], v: usize, n: usize) -> Found
     requires { ⌜ v ≤ 64 ⌝ }
 {
-    let mut assignment = ones(v);
+    let mut assignment = lowest(sets, v);
     let mut left: usize = 4096;
     while left > 0 {
         left -= 1;
@@ -144,7 +162,7 @@ pub(crate) fn first(file: &[u8], v: usize, n: usize) -> Found
                 assignment,
             };
         }
-        if !advance(&mut assignment, v, n) {
+        if !advance(&mut assignment, sets, v) {
             return Found {
                 any: false,
                 assignment,

@@ -1,5 +1,5 @@
 // A little reader of rule files, and a test whether a file is sound, written from 01's section "The
-// rule file".
+// rule file" and from 02's R-6.
 ghost use Prim.Native.Nat.{_≤_, _<_};
 ghost use lib.ListN.{length};
 use super::buffer::wide;
@@ -45,16 +45,35 @@ pub(crate) fn next_field(file: &[u8], at: usize) -> usize
     at + size
 }
 
-// Whether a field behind the header starts at a place.
-pub(crate) fn is_field(file: &[u8], place: usize) -> bool {
+// Whether a clause or an equality starts at a place behind the header. A starting set is neither.
+pub(crate) fn is_rule(file: &[u8], place: usize) -> bool {
     let mut at = 5;
     while at < file.len() {
         if at == place {
-            return true;
+            return byte(file, at) != 4;
         }
         at = next_field(file, at);
     }
     false
+}
+
+// Whether the field at the front is a starting set of a position.
+fn is_start(field: &[u8], position: usize) -> bool {
+    byte(field, 0) == 4 && byte(field, 3) == position
+}
+
+// Where the first starting set of a position stands, and 0 where there is none.
+pub(crate) fn start_of(file: &[u8], position: usize) -> usize
+    ensures { λ r. ⌜ r ≤ length (now (file .entry)) ⌝ }
+{
+    let mut at = 5;
+    while at < file.len() {
+        if is_start(&file[at..], position) {
+            return at;
+        }
+        at = next_field(file, at);
+    }
+    0
 }
 
 // Whether a value is in the set whose four bytes stand at the front.
@@ -138,7 +157,16 @@ fn equality_sound(content: &[u8], v: usize, n: usize) -> bool {
     content.len() <= 68 && set_fits(content, n) && positions_fit(&content[4..], v)
 }
 
-// Whether the bytes start with a whole clause or equality that is sound.
+// Whether the content of a starting set is sound but for others of its position: a position and a set that
+// is not empty.
+fn start_sound(content: &[u8], v: usize, n: usize) -> bool {
+    if content.len() != 5 {
+        return false;
+    }
+    atom_fits(content, v, n) && !set_fits(&content[1..], 0)
+}
+
+// Whether the bytes start with a whole field that is sound but for other fields.
 fn field_sound(rest: &[u8], v: usize, n: usize) -> bool {
     let length = length_of(rest);
     if rest.len() < 3 {
@@ -152,15 +180,25 @@ fn field_sound(rest: &[u8], v: usize, n: usize) -> bool {
     match byte(rest, 0) {
         2 => length % 5 == 0 && atoms_fit(content, v, n),
         3 => equality_sound(content, v, n),
+        4 => start_sound(content, v, n),
         _ => false,
     }
+}
+
+// Whether the field at a place is the second starting set of its position, or a later one. All fields up
+// to it are whole.
+fn is_second(file: &[u8], at: usize) -> bool
+    requires { ⌜ at < length (now file) ⌝ }
+{
+    let field = &file[at..];
+    byte(field, 0) == 4 && start_of(file, byte(field, 3)) != at
 }
 
 // Whether the fields behind the header are sound.
 fn fields_sound(file: &[u8], v: usize, n: usize) -> bool {
     let mut at = 5;
     while at < file.len() {
-        if !field_sound(&file[at..], v, n) {
+        if !field_sound(&file[at..], v, n) || is_second(file, at) {
             return false;
         }
         at = next_field(file, at);
@@ -169,7 +207,8 @@ fn fields_sound(file: &[u8], v: usize, n: usize) -> bool {
 }
 
 // Whether a file is sound: a header of 1 to 64 positions and 1 to 32 values, and behind it only
-// clauses and equalities, all of them whole, with positions up to v and values up to n.
+// clauses, equalities and starting sets, all of them whole, with positions up to v and values up to n; no
+// starting set is empty, and no position has two.
 pub(crate) fn sound(file: &[u8]) -> bool {
     if file.len() < 5 || byte(file, 0) != 1 || byte(file, 1) != 0 || byte(file, 2) != 2 {
         return false;

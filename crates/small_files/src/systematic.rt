@@ -49,6 +49,18 @@ fn equality(values: usize, number: usize, v: usize) -> Field {
     }
 }
 
+// The starting set with a number, of two positions and three values: one item whose set is not empty, so
+// that no item and the two with the empty set are left out.
+fn starting(number: usize) -> Field {
+    Field {
+        tag: 4,
+        values: 0,
+        number: std::num::wrapping_add_usize(number, 3),
+        v: 2,
+        sets: 8,
+    }
+}
+
 // 73 by 73 files: v 2, n 2, two clauses of up to two atoms.
 fn two_clauses(number: usize) -> Pair {
     Pair {
@@ -116,6 +128,26 @@ fn one_equality(number: usize) -> Pair {
     }
 }
 
+// 273 by 14 files: v 2, n 3, a clause of up to two atoms and a starting set behind it.
+fn clause_and_start(number: usize) -> Pair {
+    Pair {
+        v: 2,
+        n: 3,
+        first: clause(number % 273, 2, 8),
+        second: starting(number / 273),
+    }
+}
+
+// 14 by 120 files: v 2, n 3, a starting set and behind it an equality of up to three positions.
+fn start_and_equality(number: usize) -> Pair {
+    Pair {
+        v: 2,
+        n: 3,
+        first: starting(number % 14),
+        second: equality(number / 14 % 8, number / 112, 2),
+    }
+}
+
 // The file of a family with a number.
 fn pair_of(family: usize, number: usize) -> Pair {
     match family {
@@ -124,7 +156,9 @@ fn pair_of(family: usize, number: usize) -> Pair {
         2 => two_equalities(number),
         3 => clause_and_equality(number),
         4 => equality_and_clause(number),
-        _ => one_equality(number),
+        5 => one_equality(number),
+        6 => clause_and_start(number),
+        _ => start_and_equality(number),
     }
 }
 

@@ -1,27 +1,29 @@
 // What is counted while the files are tried, and what is printed of it.
 //
-// The counts stand in one array: the replies of each kind at 01's own number for it, and the rest at
-// the places that have a name here.
+// The counts stand in one array: the replies of each kind at the number that 01 or 02 has for it, and the
+// rest at the places that have a name here.
 use libc::STDOUT_FILENO;
 
 // Files that were made, each of them sound.
-pub const FILES: usize = 22;
+pub const FILES: usize = 48;
 // Files with a byte changed, cut off or added.
-pub const DAMAGED: usize = 23;
+pub const DAMAGED: usize = 49;
+// Replies to sound files of the special kind, with what was claimed of them compared.
+pub const SPECIAL: usize = 50;
 // The sum of the splits of all replies.
-pub const SPLITS: usize = 24;
+pub const SPLITS: usize = 51;
 // The sum of the dead ends of all replies.
-pub const DEAD_ENDS: usize = 25;
+pub const DEAD_ENDS: usize = 52;
 // The sum of the places of all replies.
-pub const PLACES: usize = 26;
+pub const PLACES: usize = 53;
 // The sum of the rounds of all replies.
-pub const ROUNDS: usize = 27;
+pub const ROUNDS: usize = 54;
 // The checksum of the five numbers of every reply, in the order of the calls.
-pub const CHECKSUM: usize = 28;
+pub const CHECKSUM: usize = 55;
 // What was compared: every reply, and that every file that was made is sound.
-pub const COMPARISONS: usize = 29;
+pub const COMPARISONS: usize = 56;
 // Comparisons that showed a difference.
-pub const DIFFERENCES: usize = 30;
+pub const DIFFERENCES: usize = 57;
 
 // The checksum is kept below this.
 const MODULUS: u64 = 4_294_967_296;
@@ -41,7 +43,7 @@ pub struct Seen {
 
 // The counts, and the reply that was seen last.
 pub struct Tally {
-    pub counts: [u64; 32],
+    pub counts: [u64; 64],
     pub seen: Seen,
 }
 
@@ -56,15 +58,15 @@ pub(crate) fn none() -> Tally {
         bytes: [0; 68],
     };
     Tally {
-        counts: [0; 32],
+        counts: [0; 64],
         seen,
     }
 }
 
-// Adds to a count. A place that is none of the 32 changes nothing.
+// Adds to a count. A place that is none of the 64 changes nothing.
 pub(crate) fn add(tally: Tally, place: usize, more: u64) -> Tally {
     let mut next = tally;
-    if place < 32 {
+    if place < 64 {
         next.counts[place] = std::num::wrapping_add_u64(tally.counts[place], more);
     }
     next
@@ -99,11 +101,12 @@ fn print_file(what: &[u8], file: &[u8]) {
     io::write_all(STDOUT_FILENO, b"\n");
 }
 
-// The places whose counts are printed, in this order: FILES and DAMAGED, the replies by their
+// The places whose counts are printed, in this order: FILES, DAMAGED and SPECIAL, the replies by their
 // numbers, SPLITS, DEAD_ENDS, PLACES, ROUNDS, CHECKSUM, COMPARISONS and DIFFERENCES.
-const PRINTED: [usize; 23] = [
-    22,
-    23,
+const PRINTED: [usize; 26] = [
+    48,
+    49,
+    50,
     0,
     1,
     2,
@@ -118,23 +121,25 @@ const PRINTED: [usize; 23] = [
     18,
     19,
     20,
-    24,
-    25,
     26,
     27,
-    28,
-    29,
-    30,
+    51,
+    52,
+    53,
+    54,
+    55,
+    56,
+    57,
 ];
 
 // Prints all counts, a line for each.
 pub(crate) fn print(tally: Tally) {
     fill(
         tally,
-        b"files #\ndamaged files #\nPLAN #\nNONE #\nUNDECIDED #\n\
+        b"files #\ndamaged files #\nof the special kind #\nPLAN #\nNONE #\nUNDECIDED #\n\
           refused, 10: #\nrefused, 11: #\nrefused, 12: #\nrefused, 13: #\n\
           refused, 14: #\nrefused, 15: #\nrefused, 16: #\nrefused, 17: #\n\
-          refused, 18: #\nrefused, 19: #\nrefused, 20: #\n\
+          refused, 18: #\nrefused, 19: #\nrefused, 20: #\nrefused, 26: #\nrefused, 27: #\n\
           splits #\ndead ends #\nplaces #\nrounds #\n\
           checksum #\ncomparisons #\ndifferences #\n",
     );
@@ -159,9 +164,9 @@ fn print_piece(tally: Tally, byte: u8, next: usize) -> usize {
 
 // Prints a count, and answers which one is the next.
 fn print_count(tally: Tally, next: usize) -> usize {
-    if next < 23 {
+    if next < 26 {
         let place = PRINTED[next];
-        if place < 32 {
+        if place < 64 {
             io::print_decimal(STDOUT_FILENO, tally.counts[place]);
         }
         return next + 1;

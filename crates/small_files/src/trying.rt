@@ -14,19 +14,27 @@ use super::tally::Tally;
 use super::tally::add;
 use super::tally::expect;
 
-// How many files each family has: all that there are of the first six, which are systematic, and
-// enough of the four that are drawn.
-const SIZES: [usize; 10] = [
+// How many families are systematic.
+const SYSTEMATIC: usize = 8;
+
+// How many files each family has: all that there are of the first eight, which are systematic, and
+// enough of the seven that are drawn.
+const SIZES: [usize; 15] = [
     5329, // two clauses
     4641, // two clauses of three values
     3136, // two equalities
     4380, // a clause and an equality
     8000, // an equality and a clause
     5456, // one equality
+    3822, // a clause and a starting set
+    1680, // a starting set and an equality
     6000, // all kinds
     3000, // clauses
     3000, // equalities
     1000, // more positions or more values
+    3000, // all kinds, with starting sets
+    3000, // sets near {1..b}, with starting sets
+    1000, // starting sets of many values
 ];
 
 // All families. The pseudo-random numbers go on from file to file.
@@ -60,7 +68,7 @@ fn one(tally: Tally, state: &mut usize, family: usize, number: usize) -> Tally {
 fn make(file: &mut [u8], state: &mut usize, family: usize, number: usize) -> usize
     ensures { λ r. ⌜ r ≤ length (now (file .entry)) ⌝ }
 {
-    if family < 6 {
+    if family < SYSTEMATIC {
         systematic::write(file, family, number)
     } else {
         drawn::write(file, state, family)
@@ -76,16 +84,24 @@ fn try_made(tally: Tally, state: &mut usize, file: &mut [u8], number: usize) -> 
     tried
 }
 
-// Tries a file that has to be sound: with the largest allowance, and with the small ones.
+// Tries a file that has to be sound: with the largest allowance, and with the small ones. Where it has
+// too many assignments, and was allowed too few splits for them, no other allowance is tried.
 fn try_file(before: Tally, file: &[u8]) -> Tally {
     let mut tally = add(before, FILES, 1);
     tally = expect(tally, sound(file), b"not sound:", file);
     tally = judge_sound(tally, file);
+    if tally.seen.number == 2 {
+        return tally;
+    }
     allowances(tally, file, tally.seen)
 }
 
-// Tries a file with all lengths of the answer buffer and with allowances about the limit.
+// Tries a file with all lengths of the answer buffer and with allowances about the limit, where it did
+// not need more splits than it was allowed.
 fn try_limits(before: Tally, file: &[u8]) -> Tally {
     let tally = judge_sound(before, file);
+    if tally.seen.number == 2 {
+        return tally;
+    }
     largest_allowances(buffers(tally, file, tally.seen), file, tally.seen)
 }

@@ -1,4 +1,4 @@
-// Writing rule files, byte by byte from 01's section "The rule file".
+// Writing rule files, byte by byte from 01's section "The rule file" and 02's R-6.
 //
 // A file stands at the front of some bytes. Each function writes at a place and answers the place
 // behind what it wrote, which is never behind the last byte. What does not fit is left out: such a
@@ -70,13 +70,14 @@ pub(crate) fn start(file: &mut [u8], at: usize, tag: usize, values: usize) -> us
     at
 }
 
-// Writes what a field repeats: a position, and the set of an atom where the field is a clause.
+// Writes what a field repeats: a position, and the set behind it where the field is no equality. A starting
+// set is written as a field of one such item.
 pub(crate) fn item(file: &mut [u8], at: usize, tag: usize, position: usize, values: usize) -> usize
     ensures { λ r. ⌜ r ≤ length (now (file .entry)) ⌝ }
 {
     let at = put(file, at, position);
-    if tag == 2 {
-        return set(file, at, values);
+    if tag == 3 {
+        return at;
     }
-    at
+    set(file, at, values)
 }

@@ -4,13 +4,15 @@
 ghost use mathlib.Core.Path.{_≡_};
 ghost use Prim.Native.Nat.{_≤_};
 ghost use lib.ListN.{length, drop};
-ghost use Rattle.rules.specs.Reading.{tagFault, bodyFault, fieldFault, headerBodyFault, headerFault, readFields};
+ghost use Rattle.rules.specs.Reading.{tagFault, bodyFault, fieldFault, faultAfter, headerBodyFault, headerFault, readFields};
 ghost use Rattle.sound.specs.Checked.{checkedOf};
 ghost use Rattle.sound.specs.Promise.{Checks};
 use super::contents::content_fault;
 use super::contents::first_of;
 use super::contents::length_fits;
 use super::contents::within;
+use super::starts::again_fault;
+use super::starts::seen_with;
 use rules::field::Tag;
 use rules::field::head_at;
 use rules::field::tag_of;
@@ -35,6 +37,7 @@ fn tag_fault(kind: Tag) -> u32
         Tag::Header => 15,
         Tag::Clause => 0,
         Tag::Equality => 0,
+        Tag::Starting => 0,
         Tag::Unknown => 16,
     }
 }
@@ -102,20 +105,35 @@ fn header_fault(input: &[u8]) -> u32
     header_body_fault(input, head.length)
 }
 
-// Walks the fields behind the header.
-fn check_fields(input: &[u8], v: u32, n: u32) -> Checked
-    requires { ⌜ 5 ≤ length (now input) ⌝ }
-    ensures { λ r. ⌜ r ≡ checkedOf (readFields (length (now (input .entry))) v n 5 (drop 5 (now (input .entry)))) ⌝ }
+// The first fault of the field that the bytes start with, where the marked positions have a starting set
+// in front of it; 0 where there is none.
+fn fault_after(bytes: &[u8], v: u32, n: u32, seen: u64) -> u32
+    requires { ⌜ v ≤ 64 ⌝ }
+    ensures { λ r. ⌜ r ≡ faultAfter v n seen (now (bytes .entry)) ⌝ }
 {
+    let fault = field_fault(bytes, v, n);
+    if fault != 0 {
+        return fault;
+    }
+    again_fault(bytes, seen)
+}
+
+// Walks the fields behind the header, with marks on the positions that have a starting set.
+fn check_fields(input: &[u8], v: u32, n: u32) -> Checked
+    requires { ⌜ (5 ≤ length (now input)) × (v ≤ 64) ⌝ }
+    ensures { λ r. ⌜ r ≡ checkedOf (readFields (length (now (input .entry))) v n 0 5 (drop 5 (now (input .entry)))) ⌝ }
+{
+    let mut seen = 0;
     let mut at = 5;
     while at < input.len() {
-        let fault = field_fault(&input[at..], v, n);
+        let fault = fault_after(&input[at..], v, n, seen);
         if fault != 0 {
             return Checked::Refused {
                 number: fault,
                 place: at,
             };
         }
+        seen = seen_with(&input[at..], seen);
         at += 3 + head_at(input, at).length;
     }
     Checked::Sound {

@@ -5,7 +5,7 @@ ghost use mathlib.Core.Bool.{true, _&&_};
 ghost use lib.Dec.{leb};
 ghost use Prim.Native.Nat.{_*_, _≤_};
 ghost use lib.ListN.{length, take};
-ghost use Rattle.rules.specs.Reading.{orElse, atomsOf, ruleOf, lengthFits, positionFault, setFault, atomFault, atomsFault, positionsFault, ruleFault};
+ghost use Rattle.rules.specs.Reading.{orElse, atomsOf, ruleOf, lengthFits, positionFault, setFault, atomFault, atomsFault, positionsFault, emptyFault, ruleFault};
 use rules::field::Atom;
 use rules::field::Tag;
 use rules::field::atom_at;
@@ -97,6 +97,25 @@ pub(crate) fn equality_fault(content: &[u8], len: usize, v: u32, n: u32) -> u32
     first_of(set, positions)
 }
 
+// 26 for a starting set without a value, and 0 for any other.
+pub(crate) fn empty_fault(set: u32) -> u32
+    ensures { λ r. ⌜ r ≡ emptyFault set ⌝ }
+{
+    if set == 0 { 26 } else { 0 }
+}
+
+// The first fault of a starting set's content: its position, its set, and last that it has no value; 0
+// where there is none.
+pub(crate) fn starting_fault(content: &[u8], len: usize, v: u32, n: u32) -> u32
+    requires { ⌜ 5 ≤ length (now content) ⌝ }
+    ensures { λ r. ⌜ r ≡ ruleFault v n (ruleOf Tag.Starting len (now (content .entry))) ⌝ }
+{
+    let atom = atom_at(content, 0);
+    let fault = atom_fault(v, n, atom);
+    let empty = empty_fault(atom.set);
+    first_of(fault, empty)
+}
+
 // Whether a field of a kind may have so many bytes of content.
 pub(crate) fn length_fits(kind: Tag, len: usize) -> bool
     ensures { λ r. ⌜ r ≡ lengthFits kind len ⌝ }
@@ -105,6 +124,7 @@ pub(crate) fn length_fits(kind: Tag, len: usize) -> bool
         Tag::Header => len == 2,
         Tag::Clause => len % 5 == 0,
         Tag::Equality => 4 <= len && len <= 68,
+        Tag::Starting => len == 5,
         Tag::Unknown => false,
     }
 }
@@ -118,6 +138,7 @@ pub(crate) fn content_fault(content: &[u8], kind: Tag, len: usize, v: u32, n: u3
     match kind {
         Tag::Clause => atoms_fault(content, len / 5, v, n),
         Tag::Equality => equality_fault(content, len, v, n),
+        Tag::Starting => starting_fault(content, len, v, n),
         Tag::Header => 0,
         Tag::Unknown => 0,
     }

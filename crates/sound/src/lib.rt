@@ -2,3 +2,4 @@
 // The contracts cite specs/Promise.antt.
 pub mod check;
 mod contents;
+mod starts;

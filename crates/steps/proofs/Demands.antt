@@ -5,18 +5,19 @@ use mathlib.Core.List.{List, []}
 use Prim.Native.Nat.{ℕ, _+_, _-_, _^_, _≤_, _<_}
 use native.Mathlib.Omega.{arith}
 use lib.Dec.{T, leb}
-use lib.ListN.{length, getD}
+use lib.ListN.{getD}
 use Rattle.rules.specs.Rules.{File}
 use Rattle.rules.specs.Meaning.{Plan, FirstPlan}
 use Rattle.rules.specs.Writing.{fieldsOf, Within}
 use Rattle.rules.proofs.Writing.PlaceLaws.{meets-placed}
-use Rattle.steps.specs.Boxes.{openValues, boxSize}
+use Rattle.steps.specs.Boxes.{startBox, openValues, boxSize}
 use Rattle.steps.specs.Reply.{Reply, withRounds}
 use Rattle.steps.specs.Rounds.{roundsOf}
 use Rattle.steps.specs.Search.{search, nowhere, searched, never, explored}
 use Rattle.steps.specs.Special.{special, specialRules}
-use Rattle.steps.specs.Table.{startOf, planned, needed}
-use Rattle.steps.proofs.Boxes.BoxSizes.{start-assignments, start-rooms, start-length, start-size}
+use Rattle.steps.specs.Start.{startOf}
+use Rattle.steps.specs.Table.{planned, needed}
+use Rattle.steps.proofs.Boxes.BoxSizes.{start-rooms, start-size, size-inside}
 use Rattle.steps.proofs.Looks.FittingRules.{FieldsFit, fields-fit}
 use Rattle.steps.proofs.Search.Allowance as allowance
 use Rattle.steps.proofs.Search.Bounds.{depth}
@@ -27,27 +28,26 @@ use Rattle.steps.proofs.Search.Decided.{Start}
 use Rattle.steps.proofs.Search.Tree.{tree}
 use Rattle.steps.proofs.Search.Walk.{depth-never-matters}
 use Rattle.steps.proofs.Search.WideRooms.{wide-most}
+use Rattle.steps.proofs.Start.StartLaws.{start-positions, start-filled, start-within, start-assigned}
 
 -- ---- the box that a search of a file starts with
 
--- it has v rooms
-pub start-positions : (file : File) → length (startOf file) ≡ file .v
-unfolding startOf
-start-positions file = start-length (file .v) (file .n)
-
 module _ (file : File) (within : Within file) where
-  -- n to the power v assignments lie in it
-  start-assigned : boxSize (startOf file) ≡ file .n ^ file .v
-  unfolding startOf
-  start-assigned = start-size (file .v) (file .n) (within .values .1)
+  -- at most n to the power v assignments lie in it
+  start-most : boxSize (startOf file) ≤ file .n ^ file .v
+  start-most =
+      let whole = start-rooms (file .v) (file .n) (within .values .0) (within .values .1) in
+      omega (arith, size-inside (startOf file) (startBox (file .v) (file .n)) (start-filled file within) whole (start-within file within), start-size (file .v) (file .n) (within .values .1))
 
   -- its rooms are not empty, the rules fit it, and its plans are the plans of the file
   pub start : Start (fieldsOf file) (startOf file) (Plan file)
-  unfolding startOf
   start = record {
-    rooms = start-rooms (file .v) (file .n) (within .values .0) (within .values .1);
+    rooms = start-filled file within;
     fits = subst (λ (v : ℕ). FieldsFit v (fieldsOf file)) (sym (start-positions file)) (fields-fit file within);
-    plans = λ a. let same = start-assignments (file .v) (file .n) a (within .values .1) in let met = meets-placed a file in (λ p. (same .1 (p .0), met .1 (p .1)), λ p. (same .0 (p .0), met .0 (p .1)));
+    plans = λ a. let met = meets-placed a file in (
+      λ p. let rules = met .1 (p .1) in (start-assigned file within a rules .1 (p .0), rules),
+      λ p. (start-assigned file within a (p .1) .0 (p .0), met .0 (p .1)),
+    );
   }
 
   module _ (allowed : ℕ) where
@@ -108,10 +108,14 @@ module _ (file : File) (within : Within file) where
     pub plan-counts : planned file allowed .number ≡ 0 → planned file allowed .deadEnds ≤ planned file allowed .splits
     plan-counts e = omega (arith, planned-counts .others (λ f. omega arith))
 
-    -- splits never exceed n ^ v - 1
-    pub splits-bound : planned file allowed .splits ≤ file .n ^ file .v - 1
+    -- splits never exceed the product of the starting sizes less one
+    pub splits-bound : planned file allowed .splits ≤ boxSize (startOf file) - 1
     unfolding planned
-    splits-bound = omega (arith, decided.splits-bound start allowed, start-assigned)
+    splits-bound = decided.splits-bound start allowed
+
+    -- nor, with that, n ^ v - 1
+    pub splits-below : planned file allowed .splits ≤ file .n ^ file .v - 1
+    splits-below = omega (arith, splits-bound, start-most)
 
     -- the special kind with v or more splits allowed: NONE at no split, or a plan at no dead end, at no position higher than any other plan
     pub special-decides : T (special file) → file .v ≤ allowed
@@ -120,7 +124,7 @@ module _ (file : File) (within : Within file) where
         × ((b : List ℕ) → Plan file b → (i : ℕ) → getD (planned file allowed .values) i 0 ≤ getD b i 0))
     unfolding planned special
     special-decides kind h =
-        decided.special-decides start allowed (subst (λ (v : ℕ). T (specialRules v (fieldsOf file))) (sym (start-positions file)) kind)
+        decided.special-decides start allowed (subst (λ (v : ℕ). T (specialRules v (startOf file) (fieldsOf file))) (sym (start-positions file)) kind)
         (omega (arith, wide-most (startOf file), start-positions file))
 
   -- ---- how deep it goes

@@ -6,6 +6,7 @@ pub mod Rounds
 pub mod Search
 pub mod Special
 pub mod StarredCases
+pub mod Start
 pub mod Step4Examples
 pub mod UnmetExamples
 pub mod UnmetField

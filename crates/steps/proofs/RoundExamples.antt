@@ -7,13 +7,14 @@ use lib.ListN.{getD}
 use Rattle.sets.specs.Sets.{full, union, common, inRange, onlyIf, isEmpty, inside, listedIf, valuesFrom, values, count}
 use Rattle.rules.specs.Rules.{File}
 use Rattle.rules.specs.Writing.{twoBytes, fourBytes, writtenAtoms, framed, contentBytes, writtenRule, placed, fieldsOf}
-use Rattle.rules.specs.Reading.{tagOf, lengthAt, setAt, atomOf, headOf, contentOf, atomsOf, ruleOf, lengthFits, tagFault, bodyFault, headerBodyFault, positionFault, setFault, atomFault, atomsFault, positionsFault, ruleFault, ruleAt, fieldFault, limitsFit, headerFault, sizeOf, readFields, reading}
+use Rattle.rules.specs.Reading.{tagOf, lengthAt, setAt, atomOf, headOf, contentOf, atomsOf, ruleOf, lengthFits, tagFault, bodyFault, headerBodyFault, positionFault, setFault, atomFault, atomsFault, positionsFault, ruleFault, ruleAt, fieldFault, limitsFit, headerFault, sizeOf, seenWith, againFault, faultAfter, readFields, reading}
 use Rattle.rules.specs.Sound.{fileOf}
 use Rattle.rules.specs.Parts.{partsOf}
 use Rattle.steps.specs.Boxes.{roomAt, withRoom, startBox, spareValues}
 use Rattle.steps.specs.Shrinking.{dead, alive, uniteIf, united, isLive, liveFrom, cut, lookBy, lookClause, inTurn}
 use Rattle.steps.specs.Rounds.{Rounds, died, rested, went, TakesRounds, roundsMost}
-use Rattle.steps.specs.Table.{startOf, mostOf, mostRounds}
+use Rattle.steps.specs.Start.{startBy, startsBy, startOf}
+use Rattle.steps.specs.Table.{mostOf, mostRounds}
 use Rattle.steps.specs.Cases.{Case, case, case-second-round, case-at-the-bound, case-refused}
 use Rattle.steps.proofs.Looks.ShrinkLaws.{rounds-once}
 
@@ -31,7 +32,7 @@ apart i differ e = differ (ap (λ (box : List ℕ). getD box i 0) e)
 
 -- three rounds take a value away, each in another room, and the fourth changes nothing
 pub bound-taken : Takes case-at-the-bound 4
-unfolding full union common inRange onlyIf isEmpty inside tagOf lengthAt setAt atomOf headOf contentOf atomsOf ruleOf lengthFits tagFault bodyFault headerBodyFault positionFault setFault atomFault atomsFault positionsFault ruleFault ruleAt fieldFault limitsFit headerFault sizeOf readFields reading fileOf twoBytes fourBytes writtenAtoms framed contentBytes writtenRule placed fieldsOf partsOf roomAt withRoom startBox uniteIf united isLive liveFrom cut lookBy lookClause inTurn startOf case case-at-the-bound
+unfolding full union common inRange onlyIf isEmpty inside tagOf lengthAt setAt atomOf headOf contentOf atomsOf ruleOf lengthFits tagFault bodyFault headerBodyFault positionFault setFault atomFault atomsFault positionsFault ruleFault ruleAt fieldFault limitsFit headerFault sizeOf seenWith againFault faultAfter readFields reading fileOf twoBytes fourBytes writtenAtoms framed contentBytes writtenRule placed fieldsOf partsOf roomAt withRoom startBox uniteIf united isLive liveFrom cut lookBy lookClause inTurn startBy startsBy startOf case case-at-the-bound
 bound-taken = (
   alive (2 ∷ 2 ∷ 2 ∷ []),
   went {box = 3 ∷ 3 ∷ 3 ∷ []} {box′ = 2 ∷ 3 ∷ 3 ∷ []} refl (apart 0 (λ e. omega (arith, e)))
@@ -45,7 +46,7 @@ bound-only k taken = rounds-once _ (taken .1) (bound-taken .1) .1
 
 -- the first round cuts both rooms, and the second finds the field at 5 dead, and counts
 pub dead-taken : Takes case-second-round 2
-unfolding full union common inRange onlyIf isEmpty inside tagOf lengthAt setAt atomOf headOf contentOf atomsOf ruleOf lengthFits tagFault bodyFault headerBodyFault positionFault setFault atomFault atomsFault positionsFault ruleFault ruleAt fieldFault limitsFit headerFault sizeOf readFields reading fileOf twoBytes fourBytes writtenAtoms framed contentBytes writtenRule placed fieldsOf partsOf roomAt withRoom startBox uniteIf united isLive liveFrom cut lookBy lookClause inTurn startOf case case-second-round
+unfolding full union common inRange onlyIf isEmpty inside tagOf lengthAt setAt atomOf headOf contentOf atomsOf ruleOf lengthFits tagFault bodyFault headerBodyFault positionFault setFault atomFault atomsFault positionsFault ruleFault ruleAt fieldFault limitsFit headerFault sizeOf seenWith againFault faultAfter readFields reading fileOf twoBytes fourBytes writtenAtoms framed contentBytes writtenRule placed fieldsOf partsOf roomAt withRoom startBox uniteIf united isLive liveFrom cut lookBy lookClause inTurn startBy startsBy startOf case case-second-round
 dead-taken = (dead 5, went {box = 3 ∷ 3 ∷ []} {box′ = 1 ∷ 2 ∷ []} refl (apart 0 (λ e. omega (arith, e))) (died 5 refl refl))
 
 pub dead-only : (k : ℕ) → Takes case-second-round k → k ≡ 2
@@ -53,5 +54,5 @@ dead-only k taken = rounds-once _ (taken .1) (dead-taken .1) .1
 
 -- the most rounds by the bytes alone: of the file at the bound, of a file that is refused, and of one that is too long
 pub most-known : (mostRounds (case-at-the-bound .bytes) ≡ 4) × (mostRounds (case-refused .bytes) ≡ 0)
-unfolding full union common inRange onlyIf isEmpty inside tagOf lengthAt setAt atomOf headOf contentOf atomsOf ruleOf lengthFits tagFault bodyFault headerBodyFault positionFault setFault atomFault atomsFault positionsFault ruleFault ruleAt fieldFault limitsFit headerFault sizeOf readFields reading fileOf twoBytes fourBytes writtenAtoms framed contentBytes writtenRule placed fieldsOf partsOf roomAt withRoom startBox uniteIf united isLive liveFrom cut lookBy lookClause inTurn startOf case case-at-the-bound case-refused listedIf valuesFrom values count spareValues roundsMost mostOf mostRounds
+unfolding full union common inRange onlyIf isEmpty inside tagOf lengthAt setAt atomOf headOf contentOf atomsOf ruleOf lengthFits tagFault bodyFault headerBodyFault positionFault setFault atomFault atomsFault positionsFault ruleFault ruleAt fieldFault limitsFit headerFault sizeOf seenWith againFault faultAfter readFields reading fileOf twoBytes fourBytes writtenAtoms framed contentBytes writtenRule placed fieldsOf partsOf roomAt withRoom startBox uniteIf united isLive liveFrom cut lookBy lookClause inTurn startBy startsBy startOf case case-at-the-bound case-refused listedIf valuesFrom values count spareValues roundsMost mostOf mostRounds
 most-known = (refl, refl)

@@ -1,2 +1,3 @@
 pub mod LadderLaws
 pub mod SpecialExactly
+pub mod LadderWords

@@ -8,14 +8,14 @@ use Rattle.sets.specs.Sets.{digit, isMember, full, union, common, inRange, only
 use Rattle.rules.specs.Rules.{File}
 use Rattle.rules.specs.Meaning.{Plan}
 use Rattle.rules.specs.Writing.{twoBytes, fourBytes, writtenAtoms, framed, contentBytes, writtenRule, placed, fieldsOf}
-use Rattle.rules.specs.Reading.{tagOf, lengthAt, setAt, atomOf, headOf, contentOf, atomsOf, ruleOf, lengthFits, tagFault, bodyFault, headerBodyFault, positionFault, setFault, atomFault, atomsFault, positionsFault, ruleFault, ruleAt, fieldFault, limitsFit, headerFault, sizeOf, readFields, reading}
+use Rattle.rules.specs.Reading.{tagOf, lengthAt, setAt, atomOf, headOf, contentOf, atomsOf, ruleOf, lengthFits, tagFault, bodyFault, headerBodyFault, positionFault, setFault, atomFault, atomsFault, positionsFault, ruleFault, ruleAt, fieldFault, limitsFit, headerFault, sizeOf, seenWith, againFault, faultAfter, readFields, reading}
 use Rattle.rules.specs.Sound.{fileOf}
 use Rattle.rules.specs.Parts.{partsOf}
-use Rattle.rules.specs.UpTo.{fieldsUpTo, upTo}
+use Rattle.rules.specs.UpTo.{fieldsUpTo, fieldsBehind, onlyStarts, upTo}
 use Rattle.steps.specs.Boxes.{roomAt, withRoom, startBox}
 use Rattle.steps.specs.Shrinking.{dead, alive, round, uniteIf, united, isLive, liveFrom, cut, lookBy, lookClause, inTurn}
 use Rattle.steps.specs.FirstDead.{overAndOver, FirstDead}
-use Rattle.steps.specs.Table.{startOf}
+use Rattle.steps.specs.Start.{startBy, startsBy, startOf}
 use Rattle.steps.specs.Cases.{Case, case, case-first-round, case-second-round}
 use Rattle.steps.proofs.Looks.DeadField.{first-dead-once}
 
@@ -29,7 +29,7 @@ Unmet c place = FirstDead (fieldsOf (fileIn c)) (startOf (fileIn c)) place
 
 -- the first case: gone through once, 34; and no other place, as 5 or 26
 pub first-round-unmet : Unmet case-first-round 34
-unfolding full union common inRange onlyIf isEmpty inside tagOf lengthAt setAt atomOf headOf contentOf atomsOf ruleOf lengthFits tagFault bodyFault headerBodyFault positionFault setFault atomFault atomsFault positionsFault ruleFault ruleAt fieldFault limitsFit headerFault sizeOf readFields reading fileOf twoBytes fourBytes writtenAtoms framed contentBytes writtenRule placed fieldsOf partsOf roomAt withRoom startBox uniteIf united isLive liveFrom cut lookBy lookClause inTurn overAndOver startOf case case-first-round case-second-round
+unfolding full union common inRange onlyIf isEmpty inside tagOf lengthAt setAt atomOf headOf contentOf atomsOf ruleOf lengthFits tagFault bodyFault headerBodyFault positionFault setFault atomFault atomsFault positionsFault ruleFault ruleAt fieldFault limitsFit headerFault sizeOf seenWith againFault faultAfter readFields reading fileOf twoBytes fourBytes writtenAtoms framed contentBytes writtenRule placed fieldsOf partsOf roomAt withRoom startBox uniteIf united isLive liveFrom cut lookBy lookClause inTurn overAndOver startBy startsBy startOf case case-first-round case-second-round
 first-round-unmet = (1, refl)
 
 pub first-round-only : (place : ℕ) → Unmet case-first-round place → place ≡ 34
@@ -37,10 +37,10 @@ first-round-only place h = first-dead-once _ _ place 34 h first-round-unmet
 
 -- the second: gone through once nothing is dead, with both rooms cut; gone through twice, 5
 pub second-round-unmet : (round (fieldsOf (fileIn case-second-round)) (startOf (fileIn case-second-round)) ≡ alive (1 ∷ 2 ∷ [])) × Unmet case-second-round 5
-unfolding full union common inRange onlyIf isEmpty inside tagOf lengthAt setAt atomOf headOf contentOf atomsOf ruleOf lengthFits tagFault bodyFault headerBodyFault positionFault setFault atomFault atomsFault positionsFault ruleFault ruleAt fieldFault limitsFit headerFault sizeOf readFields reading fileOf twoBytes fourBytes writtenAtoms framed contentBytes writtenRule placed fieldsOf partsOf roomAt withRoom startBox uniteIf united isLive liveFrom cut lookBy lookClause inTurn overAndOver startOf case case-first-round case-second-round
+unfolding full union common inRange onlyIf isEmpty inside tagOf lengthAt setAt atomOf headOf contentOf atomsOf ruleOf lengthFits tagFault bodyFault headerBodyFault positionFault setFault atomFault atomsFault positionsFault ruleFault ruleAt fieldFault limitsFit headerFault sizeOf seenWith againFault faultAfter readFields reading fileOf twoBytes fourBytes writtenAtoms framed contentBytes writtenRule placed fieldsOf partsOf roomAt withRoom startBox uniteIf united isLive liveFrom cut lookBy lookClause inTurn overAndOver startBy startsBy startOf case case-first-round case-second-round
 second-round-unmet = (refl, (2, refl))
 
 -- there the rules up to the field at 5 alone do have a plan: "where the first round finds it dead" is needed
 pub second-round-plan : Plan (upTo 5 (fileIn case-second-round)) (2 ∷ 1 ∷ [])
-unfolding full union common inRange onlyIf isEmpty inside tagOf lengthAt setAt atomOf headOf contentOf atomsOf ruleOf lengthFits tagFault bodyFault headerBodyFault positionFault setFault atomFault atomsFault positionsFault ruleFault ruleAt fieldFault limitsFit headerFault sizeOf readFields reading fileOf twoBytes fourBytes writtenAtoms framed contentBytes writtenRule placed fieldsOf partsOf roomAt withRoom startBox uniteIf united isLive liveFrom cut lookBy lookClause inTurn overAndOver startOf case case-first-round case-second-round fieldsUpTo upTo digit isMember
+unfolding full union common inRange onlyIf isEmpty inside tagOf lengthAt setAt atomOf headOf contentOf atomsOf ruleOf lengthFits tagFault bodyFault headerBodyFault positionFault setFault atomFault atomsFault positionsFault ruleFault ruleAt fieldFault limitsFit headerFault sizeOf seenWith againFault faultAfter readFields reading fileOf twoBytes fourBytes writtenAtoms framed contentBytes writtenRule placed fieldsOf partsOf roomAt withRoom startBox uniteIf united isLive liveFrom cut lookBy lookClause inTurn overAndOver startBy startsBy startOf case case-first-round case-second-round fieldsUpTo fieldsBehind onlyStarts upTo digit isMember
 second-round-plan = ((refl, omega arith), (inl tt, tt))

@@ -18,7 +18,7 @@ roomAt box p = getD box (p - 1) 0
 unfoldable pub withRoom : List ℕ → ℕ → ℕ → List ℕ
 withRoom box p room = set box (p - 1) room
 
--- at the start each of the v rooms is {1..n}
+-- where no starting set says otherwise each of the v rooms is {1..n} at the start
 unfoldable pub startBox : ℕ → ℕ → List ℕ
 startBox v n = replicate v (full n)
 

@@ -1,5 +1,5 @@
 -- 01's twelve starred cases: the bytes of each file, the splits allowed, and the reply; the counts of l are those of 02 (R-2), the place of d (R-3) and the rounds
--- (R-10) too. Behind them two cases of R-3 and five of R-10. Assumes nothing.
+-- (R-10) too. Behind them two cases of R-3, five of R-10 and four of R-6. Assumes nothing.
 use Prim.Native.Nat.{ℕ}
 use mathlib.Core.List.{List, [], _∷_}
 use Rattle.steps.specs.Reply.{Reply}
@@ -163,3 +163,37 @@ case-refused =
 -- all five
 unfoldable pub inRounds : List Case
 inRounds = case-no-rule ∷ case-at-the-bound ∷ case-undecided ∷ case-first-box ∷ case-refused ∷ []
+
+-- ---- R-6: starting sets
+
+-- [p1{1}], and behind it position 1 starts at {2, 3}, n 3: no value of the clause is there from the start
+unfoldable pub case-not-fitted : Case
+unfolding case
+case-not-fitted =
+    case (1 ∷ 0 ∷ 2 ∷ 2 ∷ 3 ∷ 2 ∷ 0 ∷ 5 ∷ 1 ∷ 0 ∷ 0 ∷ 0 ∷ 1 ∷ 4 ∷ 0 ∷ 5 ∷ 1 ∷ 0 ∷ 0 ∷ 0 ∷ 6 ∷ [])
+    1000000 1 5 0 1 1 ([])
+
+-- position 2 starts at {3} and position 1 at {2, 3}, n 3: the smallest values, with no split allowed
+unfoldable pub case-fitted : Case
+unfolding case
+case-fitted =
+    case (1 ∷ 0 ∷ 2 ∷ 2 ∷ 3 ∷ 4 ∷ 0 ∷ 5 ∷ 2 ∷ 0 ∷ 0 ∷ 0 ∷ 4 ∷ 4 ∷ 0 ∷ 5 ∷ 1 ∷ 0 ∷ 0 ∷ 0 ∷ 6 ∷ [])
+    0 0 0 0 0 1 (2 ∷ 3 ∷ [])
+
+-- an empty starting set for a position that has one: 26 before 27
+unfoldable pub case-empty-start : Case
+unfolding case
+case-empty-start =
+    case (1 ∷ 0 ∷ 2 ∷ 2 ∷ 2 ∷ 4 ∷ 0 ∷ 5 ∷ 1 ∷ 0 ∷ 0 ∷ 0 ∷ 1 ∷ 4 ∷ 0 ∷ 5 ∷ 1 ∷ 0 ∷ 0 ∷ 0 ∷ 0 ∷ [])
+    1000000 26 13 0 0 0 ([])
+
+-- the same set again for a position that has it
+unfoldable pub case-second-start : Case
+unfolding case
+case-second-start =
+    case (1 ∷ 0 ∷ 2 ∷ 2 ∷ 2 ∷ 4 ∷ 0 ∷ 5 ∷ 1 ∷ 0 ∷ 0 ∷ 0 ∷ 1 ∷ 4 ∷ 0 ∷ 5 ∷ 1 ∷ 0 ∷ 0 ∷ 0 ∷ 1 ∷ [])
+    1000000 27 13 0 0 0 ([])
+
+-- all four
+unfoldable pub started : List Case
+started = case-not-fitted ∷ case-fitted ∷ case-empty-start ∷ case-second-start ∷ []

@@ -4,7 +4,9 @@ pub mod Rounds
 pub mod Reply
 pub mod FirstDead
 pub mod Search
+pub mod Reached
 pub mod OldStep
+pub mod Start
 pub mod Table
 pub mod Special
 pub mod Cases

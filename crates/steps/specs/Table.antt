@@ -6,15 +6,11 @@ use lib.ListN.{length}
 use Rattle.rules.specs.Writing.{fieldsOf}
 use Rattle.rules.specs.Rules.{File}
 use Rattle.rules.specs.Reading.{Reading, sound, refused, reading}
-use Rattle.steps.specs.Boxes.{startBox}
+use Rattle.steps.specs.Start.{startOf}
 use Rattle.steps.specs.Shrinking.{ifTest}
 use Rattle.steps.specs.Reply.{Reply, withRounds, refusal}
 use Rattle.steps.specs.Rounds.{roundsOf, roundsMost}
 use Rattle.steps.specs.Search.{searched, explored}
-
--- the box that the search of a file starts with: {1..n} everywhere
-unfoldable pub startOf : File → List ℕ
-startOf file = startBox (file .v) (file .n)
 
 -- the search of a file, with the rounds of its first box
 unfoldable pub planned : File → ℕ → Reply

@@ -2,16 +2,17 @@
 use mathlib.Core.Path.{_≡_, refl, subst}
 use mathlib.Core.Bool.{Bool, true, false, not}
 use mathlib.Core.List.{List, [], _∷_}
-use mathlib.Core.Logic.{_↔_, Iff·rfl}
+use mathlib.Core.Logic.{_↔_, Iff·rfl, Iff·trans}
 use Prim.Native.Nat.{ℕ, zero, suc, _≤_}
 use native.Mathlib.Omega.{arith}
-use lib.Dec.{T, eqb}
+use lib.Dec.{T, eqb, T-not, not-T}
 use lib.ListN.{length, getD}
 use Rattle.rules.specs.declared.field.Atom.{Atom}
 use Rattle.lists.specs.Lists.{Every}
-use Rattle.rules.specs.Rules.{clause, equality}
-use Rattle.rules.specs.Reading.{tagOf, lengthFits, faultIf, orElse, tagFault, bodyFault, headerBodyFault, positionFault, setFault, atomFault, atomsFault, positionsFault, ruleFault, ruleAt, headOf, contentOf, fieldFault, limitsFit, headerFault}
-use Rattle.rules.specs.Writing.{PositionFits, SetFits}
+use Rattle.rules.specs.Rules.{Rule, clause, equality, starting}
+use Rattle.rules.specs.Reading.{tagOf, lengthFits, faultIf, orElse, tagFault, bodyFault, headerBodyFault, positionFault, setFault, atomFault, atomsFault, positionsFault, emptyFault, ruleFault, ruleAt, headOf, contentOf, fieldFault, againFault, faultAfter, limitsFit, headerFault}
+use Rattle.rules.specs.Writing.{PositionFits, SetFits, AtomFits, Unseen}
+use Rattle.sets.specs.Sets.{isMember, isEmpty}
 use Rattle.lists.proofs.TestLaws.{not-not, both-hold, le-holds, lt-fails, eq-holds, eq-fails}
 
 -- ---- one fault after another
@@ -46,12 +47,12 @@ set-fault-none : (n m : ℕ) → (setFault n m ≡ 0) ↔ SetFits n m
 unfolding setFault
 set-fault-none n m = simp tests (λ h. h .0, λ h. (h, refl))
 
-atom-fault-none : (v n : ℕ) (a : Atom) → (atomFault v n a ≡ 0) ↔ (PositionFits v (a .position) × SetFits n (a .set))
+atom-fault-none : (v n : ℕ) (a : Atom) → (atomFault v n a ≡ 0) ↔ AtomFits v n a
 unfolding atomFault
 atom-fault-none v n a = simp (or-else-none, position-fault-none, set-fault-none) Iff·rfl
 
 -- atoms have no fault exactly if each has its position and its set within the limits
-atoms-fault-none : (v n : ℕ) (atoms : List Atom) → (atomsFault v n atoms ≡ 0) ↔ Every (λ a. PositionFits v (a .position) × SetFits n (a .set)) atoms
+atoms-fault-none : (v n : ℕ) (atoms : List Atom) → (atomsFault v n atoms ≡ 0) ↔ Every (AtomFits v n) atoms
 unfolding atomsFault
 atoms-fault-none v n = faults-none (atomFault v n) _ (atomsFault v n) (atom-fault-none v n) refl (λ a more. refl)
 
@@ -61,7 +62,7 @@ unfolding positionsFault
 positions-fault-none v = faults-none (positionFault v) _ (positionsFault v) (position-fault-none v) refl (λ p more. refl)
 
 -- so a clause has none exactly if that holds of its atoms
-pub clause-fault-none : (v n : ℕ) (atoms : List Atom) → (ruleFault v n (clause atoms) ≡ 0) ↔ Every (λ a. PositionFits v (a .position) × SetFits n (a .set)) atoms
+pub clause-fault-none : (v n : ℕ) (atoms : List Atom) → (ruleFault v n (clause atoms) ≡ 0) ↔ Every (AtomFits v n) atoms
 unfolding ruleFault
 clause-fault-none = atoms-fault-none
 
@@ -69,6 +70,25 @@ clause-fault-none = atoms-fault-none
 pub equality-fault-none : (v n m : ℕ) (ps : List ℕ) → (ruleFault v n (equality m ps) ≡ 0) ↔ (SetFits n m × Every (PositionFits v) ps)
 unfolding ruleFault
 equality-fault-none v n m ps = simp (or-else-none, set-fault-none, positions-fault-none) Iff·rfl
+
+-- a set is no empty starting set exactly if it has a value
+empty-fault-none : (m : ℕ) → (emptyFault m ≡ 0) ↔ (m ≡ 0 → ⊥)
+unfolding emptyFault isEmpty
+empty-fault-none m = simp tests (λ h. h .0, λ h. (h, refl))
+
+-- and a starting set exactly if its position and its set are within the limits and it has a value
+pub starting-fault-none : (v n : ℕ) (a : Atom) → (ruleFault v n (starting a) ≡ 0) ↔ (AtomFits v n a × (a .set ≡ 0 → ⊥))
+unfolding ruleFault
+starting-fault-none v n a = simp (or-else-none, atom-fault-none, empty-fault-none) Iff·rfl
+
+-- a rule is no second starting set exactly if its position was not seen
+pub again-fault-none : (seen : ℕ) (r : Rule) → (againFault seen r ≡ 0) ↔ Unseen seen r
+unfolding againFault
+again-fault-none seen (clause atoms) = (λ e. tt, λ t. refl)
+again-fault-none seen (equality m ps) = (λ e. tt, λ t. refl)
+again-fault-none seen (starting a) =
+    let again = isMember (a .position) seen in
+    Iff·trans (fault-none again 27 (λ _. 0) refl) (λ h. T-not again (h .0), λ h. (not-T again h, refl))
 
 -- ---- a field and the header
 
@@ -84,6 +104,11 @@ pub record SoundField (v n : ℕ) (bytes : List ℕ) : Type 0 where
 pub field-fault-none : (v n : ℕ) (bytes : List ℕ) → (fieldFault v n bytes ≡ 0) ↔ SoundField v n bytes
 unfolding fieldFault bodyFault ruleAt
 field-fault-none v n bytes = simp tests (λ h. search, λ f. search)
+
+-- behind others a field has no fault exactly if it passes its tests, and is no second starting set of a position seen there
+pub fault-after-none : (v n seen : ℕ) (bytes : List ℕ) → (faultAfter v n seen bytes ≡ 0) ↔ (SoundField v n bytes × Unseen seen (ruleAt bytes))
+unfolding faultAfter
+fault-after-none v n seen bytes = simp (or-else-none, field-fault-none, again-fault-none) (λ h. search, λ h. search)
 
 -- what the tests of the header say
 pub record SoundHeader (bytes : List ℕ) : Type 0 where

@@ -1,8 +1,8 @@
--- The numbers and places of refusals: reading refuses with 13 to 20 alone, `refused-number`, at a place within the input, `refused-place`; else v and n are the header's, `read-limits`, and no rule has a fault, `read-faultless`. Assumes nothing.
+-- The numbers and places of refusals: reading refuses with 13 to 20, 26 and 27 alone, `refused-number`, at a place within the input, `refused-place`; else v and n are the header's, `read-limits`, and no rule has a fault, `read-faultless`. Assumes nothing.
 use mathlib.Core.Path.{_≡_, refl, sym, subst, subst₂}
 use mathlib.Core.Bool.{Bool, true, false}
 use mathlib.Core.List.{List, [], _∷_}
-use mathlib.Core.Logic.{_⊎_, inl, inr}
+use mathlib.Core.Logic.{_⊎_, inl, inr, ⊎-elim}
 use Prim.Native.Nat.{ℕ, zero, suc, _+_, _≤_, _<_}
 use native.Mathlib.Omega.{arith}
 use lib.Dec.{lit≤}
@@ -10,15 +10,15 @@ use lib.ListN.{length, getD, drop, length-drop}
 use Rattle.lists.specs.Lists.{Every}
 use Rattle.rules.specs.declared.field.Atom.{Atom}
 use Rattle.rules.specs.declared.field.Tag.{Tag}
-use Rattle.rules.specs.declared.field.Tag.the-variants.{Header, Clause, Equality, Unknown}
-use Rattle.rules.specs.Rules.{Rule, File, clause, equality}
-use Rattle.rules.specs.Reading.{faultIf, orElse, positionFault, setFault, atomFault, atomsFault, positionsFault, ruleFault, tagFault, bodyFault, fieldFault, headerBodyFault, headerFault}
-use Rattle.rules.specs.Reading.{Reading, sound, refused, refuseFor, withRule, ruleAt, sizeOf, readFields, reading}
-use Rattle.rules.proofs.Reading.FaultlessLaws.{field-fault-none}
+use Rattle.rules.specs.declared.field.Tag.the-variants.{Header, Clause, Equality, Starting, Unknown}
+use Rattle.rules.specs.Rules.{Rule, File, clause, equality, starting}
+use Rattle.rules.specs.Reading.{faultIf, orElse, positionFault, setFault, atomFault, atomsFault, positionsFault, emptyFault, ruleFault, tagFault, bodyFault, fieldFault, againFault, faultAfter, headerBodyFault, headerFault}
+use Rattle.rules.specs.Reading.{Reading, sound, refused, refuseFor, withRule, ruleAt, sizeOf, seenWith, readFields, reading}
+use Rattle.rules.proofs.Reading.FaultlessLaws.{fault-after-none}
 
 -- the numbers that reading refuses with
 abbrev Refusing : ℕ → Type 0
-Refusing number = (13 ≤ number) × (number ≤ 20)
+Refusing number = ((13 ≤ number) × (number ≤ 20)) ⊎ ((26 ≤ number) × (number ≤ 27))
 
 -- ---- faults: none, or one of these numbers
 
@@ -28,16 +28,23 @@ Fault number = (number ≡ 0) ⊎ Refusing number
 no-fault : Fault 0
 no-fault = inl refl
 
-fault-if-number : (b : Bool) (number : ℕ) (rest : Unit {0} → ℕ) → 13 ≤ number → number ≤ 20 → Fault (rest tt) → Fault (faultIf b number rest)
-fault-if-number true number rest low high f = inr (low, high)
-fault-if-number false number rest low high f = f
+fault-if-number : (b : Bool) (number : ℕ) (rest : Unit {0} → ℕ) → Refusing number → Fault (rest tt) → Fault (faultIf b number rest)
+fault-if-number true number rest is f = inr is
+fault-if-number false number rest is f = f
+
+-- 01's numbers, and those of starting sets
+early : (number : ℕ) → 13 ≤ number → number ≤ 20 → Refusing number
+early number low high = inl (low, high)
+
+late : (number : ℕ) → 26 ≤ number → number ≤ 27 → Refusing number
+late number low high = inr (low, high)
 
 or-else-number : (first later : ℕ) → Fault first → Fault later → Fault (orElse first later)
 or-else-number zero later f g = g
 or-else-number (suc first) later f g = f
 
 -- a chain of tests, each with such a number
-ruleset numbers = (no-fault, fault-if-number, or-else-number, lit≤)
+ruleset numbers = (no-fault, fault-if-number, or-else-number, early, late, lit≤)
 
 position-number : (v p : ℕ) → Fault (positionFault v p)
 unfolding positionFault
@@ -47,11 +54,18 @@ set-number : (n m : ℕ) → Fault (setFault n m)
 unfolding setFault
 set-number n m = search numbers
 
+atom-number : (v n : ℕ) (a : Atom) → Fault (atomFault v n a)
+unfolding atomFault
+atom-number v n a = or-else-number _ _ (position-number v (a .position)) (set-number n (a .set))
+
 atoms-number : (v n : ℕ) (atoms : List Atom) → Fault (atomsFault v n atoms)
-unfolding atomsFault atomFault
+unfolding atomsFault
 atoms-number v n [] = inl refl
-atoms-number v n (a ∷ more) =
-    or-else-number _ _ (or-else-number _ _ (position-number v (a .position)) (set-number n (a .set))) (atoms-number v n more)
+atoms-number v n (a ∷ more) = or-else-number _ _ (atom-number v n a) (atoms-number v n more)
+
+empty-number : (m : ℕ) → Fault (emptyFault m)
+unfolding emptyFault
+empty-number m = search numbers
 
 positions-number : (v : ℕ) (ps : List ℕ) → Fault (positionsFault v ps)
 unfolding positionsFault
@@ -62,21 +76,33 @@ rule-number : (v n : ℕ) (rule : Rule) → Fault (ruleFault v n rule)
 unfolding ruleFault
 rule-number v n (clause atoms) = atoms-number v n atoms
 rule-number v n (equality m ps) = or-else-number _ _ (set-number n m) (positions-number v ps)
+rule-number v n (starting a) = or-else-number _ _ (atom-number v n a) (empty-number (a .set))
 
 tag-number : (kind : Tag) → Fault (tagFault kind)
 unfolding tagFault
-tag-number Header = inr (omega arith)
+tag-number Header = inr (early _ (omega arith) (omega arith))
 tag-number Clause = no-fault
 tag-number Equality = no-fault
-tag-number Unknown = inr (omega arith)
+tag-number Starting = no-fault
+tag-number Unknown = inr (early _ (omega arith) (omega arith))
 
 field-number : (v n : ℕ) (bytes : List ℕ) → Fault (fieldFault v n bytes)
 unfolding fieldFault bodyFault
 field-number v n bytes = search (numbers, tag-number, rule-number) depth 8
 
+again-number : (seen : ℕ) (rule : Rule) → Fault (againFault seen rule)
+unfolding againFault
+again-number seen (clause atoms) = no-fault
+again-number seen (equality m ps) = no-fault
+again-number seen (starting a) = search numbers
+
+after-number : (v n seen : ℕ) (bytes : List ℕ) → Fault (faultAfter v n seen bytes)
+unfolding faultAfter
+after-number v n seen bytes = search (or-else-number, field-number, again-number)
+
 header-number : (bytes : List ℕ) → Fault (headerFault bytes)
 unfolding headerFault headerBodyFault
-header-number bytes = search numbers depth 8
+header-number bytes = search numbers depth 12
 
 -- ---- readings
 
@@ -99,28 +125,33 @@ module _ (v n end : ℕ) where
   with-rule-fine rule (sound file) e r = (r .0, r .1, (e, r .2))
   with-rule-fine rule (refused number place) e r = r
 
-  fields-fine : (k place : ℕ) (bytes : List ℕ) → (0 < length bytes → place + length bytes ≤ end) → Fine v n end (readFields k v n place bytes)
+  fields-fine : (k seen place : ℕ) (bytes : List ℕ) → (0 < length bytes → place + length bytes ≤ end) → Fine v n end (readFields k v n seen place bytes)
   unfolding readFields
-  fields-fine zero place bytes h = (refl, refl, tt)
-  fields-fine (suc k) place [] h = (refl, refl, tt)
-  fields-fine (suc k) place (b ∷ bs) h =
+  fields-fine zero seen place bytes h = (refl, refl, tt)
+  fields-fine (suc k) seen place [] h = (refl, refl, tt)
+  fields-fine (suc k) seen place (b ∷ bs) h =
       let bytes : List ℕ = b ∷ bs in
       let size : ℕ = sizeOf bytes in
       let rest : List ℕ = drop size bytes in
       let there : place + length bytes ≤ end = h (omega arith) in
-      let later = fields-fine k (place + size) rest (λ l. omega (arith, length-drop size bytes)) in
-      refuse-for-fine (fieldFault v n bytes) place _ (field-number v n bytes) (omega arith)
-      (λ e. with-rule-fine (ruleAt bytes) (readFields k v n (place + size) rest) (field-fault-none v n bytes .0 e .rule-faultless) later)
+      let seen′ : ℕ = seenWith (ruleAt bytes) seen in
+      let later = fields-fine k seen′ (place + size) rest (λ l. omega (arith, length-drop size bytes)) in
+      refuse-for-fine (faultAfter v n seen bytes) place _ (after-number v n seen bytes) (omega arith)
+      (λ e. with-rule-fine (ruleAt bytes) (readFields k v n seen′ (place + size) rest) (fault-after-none v n seen bytes .0 e .0 .rule-faultless) later)
 
 reading-fine : (s : List ℕ) → Fine (getD s 3 0) (getD s 4 0) (length s) (reading s)
 unfolding reading
 reading-fine s =
-    let fields = fields-fine (getD s 3 0) (getD s 4 0) (length s) (length s) 5 (drop 5 s) (λ l. omega (arith, length-drop 5 s)) in
+    let fields = fields-fine (getD s 3 0) (getD s 4 0) (length s) (length s) 0 5 (drop 5 s) (λ l. omega (arith, length-drop 5 s)) in
     refuse-for-fine (getD s 3 0) (getD s 4 0) (length s) (headerFault s) 0 _ (header-number s) (omega arith) (λ e. fields)
 
--- reading refuses with the numbers 13 to 20 alone
-pub refused-number : (s : List ℕ) (number place : ℕ) → reading s ≡ refused number place → (13 ≤ number) × (number ≤ 20)
+-- reading refuses with the numbers 13 to 20, 26 and 27 alone
+pub refused-number : (s : List ℕ) (number place : ℕ) → reading s ≡ refused number place → ((13 ≤ number) × (number ≤ 20)) ⊎ ((26 ≤ number) × (number ≤ 27))
 refused-number s number place e = subst (Fine (getD s 3 0) (getD s 4 0) (length s)) e (reading-fine s) .0
+
+-- so they lie between 13 and 27
+pub refused-range : (s : List ℕ) (number place : ℕ) → reading s ≡ refused number place → (13 ≤ number) × (number ≤ 27)
+refused-range s number place e = ⊎-elim (λ h. omega arith) (λ h. omega arith) (refused-number s number place e)
 
 -- the place of a refusal lies within the input
 pub refused-place : (s : List ℕ) (number place : ℕ) → reading s ≡ refused number place → place ≤ length s

@@ -8,14 +8,14 @@ use lib.Seq.{drop-drop}
 use Rattle.rules.specs.declared.field.Head.{Head}
 use Rattle.rules.specs.declared.field.Tag.{Tag}
 use Rattle.rules.specs.Rules.{Field, File}
-use Rattle.rules.specs.Reading.{Reading, sound, tagOf, headOf, contentOf, ruleOf, ruleAt, fieldFault, headerFault, sizeOf, readFields, reading}
+use Rattle.rules.specs.Reading.{Reading, sound, tagOf, headOf, contentOf, ruleOf, ruleAt, faultAfter, headerFault, sizeOf, seenWith, readFields, reading}
 use Rattle.rules.specs.Writing.{placed, fieldsOf}
 use Rattle.rules.specs.Contents.{ContentFits}
 use Rattle.rules.specs.Sound.{fileOf, fieldsIn, SoundInput}
 use Rattle.rules.specs.Walk.{Walk}
 use Rattle.lists.proofs.TakeDrop.{rest-part}
 use Rattle.rules.proofs.Reading.ContentLaws.{content-fits}
-use Rattle.rules.proofs.Reading.FaultlessLaws.{SoundField, SoundHeader, field-fault-none, header-fault-none}
+use Rattle.rules.proofs.Reading.FaultlessLaws.{SoundField, SoundHeader, fault-after-none, header-fault-none}
 use Rattle.rules.proofs.Reading.FieldByField.{refuse-for-sound, with-rule-sound, read-on, read-end}
 use Rattle.rules.proofs.Reading.RefusalLaws.{read-limits}
 use Rattle.rules.proofs.Writing.WrittenLaws.{size-of-read}
@@ -56,9 +56,10 @@ walk-start {s} {v} input =
     record {
       few = limits .1;
       within = limits .2;
+      seen = 0;
       rules = file .rules;
       read =
-          subst₂ (λ (k m : ℕ). readFields (length s) k m 5 (drop 5 s) ≡ sound (record { v = v; n = file .n; rules = file .rules }))
+          subst₂ (λ (k m : ℕ). readFields (length s) k m 0 5 (drop 5 s) ≡ sound (record { v = v; n = file .n; rules = file .rules }))
           (sym (same .0) ∙ input .positions) (sym (same .1)) (behind ∙ ap (λ (k : ℕ). sound (record { v = k; n = file .n; rules = file .rules })) (input .positions));
       fields = refl;
     }
@@ -68,7 +69,7 @@ pub walk-end : {s : List ℕ} {v at : ℕ} {left : List Field} → Walk s v at l
 unfolding placed fileOf
 walk-end {s} {v} {at} walk past =
     let n = fileOf (reading s) .n in
-    walk .fields ∙ ap (λ (r : Reading). placed at (fileOf r .rules)) (sym (walk .read) ∙ read-end v n at s past)
+    walk .fields ∙ ap (λ (r : Reading). placed at (fileOf r .rules)) (sym (walk .read) ∙ read-end v n (walk .seen) at s past)
 
 -- ---- the field at a place
 
@@ -88,19 +89,19 @@ pub record FieldHere (s : List ℕ) (v at : ℕ) (left : List Field) (head : Hea
 
 module _ {s : List ℕ} {v at : ℕ} {left : List Field} (walk : Walk s v at left) (before : at < length s) where
   -- what was read is a rule and a file behind it
-  step : (later : File) × (readFields (length s) v (fileOf (reading s) .n) (at + sizeOf (drop at s)) (drop (at + sizeOf (drop at s)) s) ≡ sound later)
+  step : (later : File) × (readFields (length s) v (fileOf (reading s) .n) (seenWith (ruleAt (drop at s)) (walk .seen)) (at + sizeOf (drop at s)) (drop (at + sizeOf (drop at s)) s) ≡ sound later)
       × _≡_ {A = File} (record { v = later .v; n = later .n; rules = ruleAt (drop at s) ∷ later .rules }) (record { v = v; n = fileOf (reading s) .n; rules = walk .rules })
-      × (fieldFault v (fileOf (reading s) .n) (drop at s) ≡ 0)
+      × (faultAfter v (fileOf (reading s) .n) (walk .seen) (drop at s) ≡ 0)
   step =
       let n = fileOf (reading s) .n in
       let file : File = record { v = v; n = n; rules = walk .rules } in
-      let went = refuse-for-sound (fieldFault v n (drop at s)) at _ file (sym (read-on v n at s before) ∙ walk .read) in
+      let went = refuse-for-sound (faultAfter v n (walk .seen) (drop at s)) at _ file (sym (read-on v n (walk .seen) at s before) ∙ walk .read) in
       let found = with-rule-sound (ruleAt (drop at s)) _ file (went .1) in
       (found .0, found .1, found .2, went .0)
 
   -- the field that stands there has no fault
   pub field-sound : SoundField v (fileOf (reading s) .n) (drop at s)
-  field-sound = field-fault-none v (fileOf (reading s) .n) (drop at s) .0 (step .3)
+  field-sound = fault-after-none v (fileOf (reading s) .n) (walk .seen) (drop at s) .0 (step .3) .0
 
   field-read : FieldHere s v at left (headOf (drop at s)) (drop (at + 3) s)
   unfolding placed sizeOf contentOf ruleAt
@@ -128,9 +129,10 @@ module _ {s : List ℕ} {v at : ℕ} {left : List Field} (walk : Walk s v at lef
             record {
               few = walk .few;
               within = omega (arith, field .head-there, field .content-there, length-drop at s, length-drop 3 bytes);
+              seen = seenWith (ruleAt bytes) (walk .seen);
               rules = later .rules;
               read =
-                  ap (λ (k : ℕ). readFields (length s) v n k (drop k s)) same ∙ step .1
+                  ap (λ (k : ℕ). readFields (length s) v n (seenWith (ruleAt bytes) (walk .seen)) k (drop k s)) same ∙ step .1
                   ∙ (λ i. sound (record { v = step .2 i .v; n = step .2 i .n; rules = later .rules }));
               fields = ap (λ (k : ℕ). placed k (later .rules)) (sym same);
             };

@@ -5,11 +5,11 @@ use native.Mathlib.Omega.{arith}
 use lib.ListN.{length}
 use Prim.Native.Nat.{ℕ}
 use Rattle.sets.specs.Sets.{inRange, onlyIf, full, common, inside}
-use Rattle.rules.specs.Rules.{Rule, File, Field, clause, equality}
-use Rattle.rules.specs.Reading.{tagOf, lengthAt, setAt, atomOf, headOf, contentOf, atomsOf, ruleOf, lengthFits, tagFault, bodyFault, headerBodyFault, positionFault, setFault, atomFault, atomsFault, positionsFault, ruleFault, ruleAt, fieldFault, limitsFit, headerFault, sound, sizeOf, readFields, reading}
+use Rattle.rules.specs.Rules.{Rule, File, Field, clause, equality, starting}
+use Rattle.rules.specs.Reading.{tagOf, lengthAt, setAt, atomOf, headOf, contentOf, atomsOf, ruleOf, lengthFits, tagFault, bodyFault, headerBodyFault, positionFault, setFault, atomFault, atomsFault, positionsFault, ruleFault, ruleAt, fieldFault, againFault, faultAfter, limitsFit, headerFault, sound, sizeOf, readFields, reading}
 use Rattle.rules.specs.Writing.{twoBytes, fourBytes, writtenAtoms, framed, tagByte, contentBytes, writtenRule, writtenRules, written, placed, fieldsOf}
 use Rattle.rules.specs.Sound.{StandsIn}
-use Rattle.rules.specs.UpTo.{fieldsUpTo, upTo}
+use Rattle.rules.specs.UpTo.{fieldsUpTo, fieldsBehind, onlyStarts, upTo}
 
 -- v 2 and n 2; "1 in {} or 1 in {1, 2} or 2 in {2}"; "the values of positions 1 and 1 are {1, 2}"; an empty clause
 pub exampleBytes : List ℕ
@@ -33,7 +33,7 @@ exampleFile = record {
 
 -- the bytes are read as the file
 pub example-read : reading exampleBytes ≡ sound exampleFile
-unfolding exampleBytes exampleFile reading headerFault limitsFit readFields sizeOf fieldFault ruleAt ruleOf ruleFault atomsFault positionsFault atomFault setFault positionFault tagFault bodyFault headerBodyFault lengthFits atomsOf contentOf headOf atomOf setAt lengthAt tagOf full inside inRange onlyIf common
+unfolding exampleBytes exampleFile reading headerFault limitsFit readFields sizeOf faultAfter againFault fieldFault ruleAt ruleOf ruleFault atomsFault positionsFault atomFault setFault positionFault tagFault bodyFault headerBodyFault lengthFits atomsOf contentOf headOf atomOf setAt lengthAt tagOf full inside inRange onlyIf common
 example-read = refl
 
 -- the file is written as the bytes
@@ -48,13 +48,14 @@ example-places = refl
 
 -- up to the field at 23 there are the first two rules, up to 22 the first alone, and before the first none
 pub example-up-to : (map tagByte (upTo 23 exampleFile .rules) ≡ 2 ∷ 3 ∷ []) × (map tagByte (upTo 22 exampleFile .rules) ≡ 2 ∷ []) × (upTo 4 exampleFile .rules ≡ [])
-unfolding exampleFile fieldsOf placed writtenRule framed tagByte contentBytes writtenAtoms fourBytes twoBytes fieldsUpTo upTo
+unfolding exampleFile fieldsOf placed writtenRule framed tagByte contentBytes writtenAtoms fourBytes twoBytes fieldsUpTo fieldsBehind onlyStarts upTo
 example-up-to = (refl, refl, refl)
 
--- the number of atoms of a clause; 0 for an equality
+-- the number of atoms of a clause; 0 for another rule
 abbrev atomsIn : Rule → ℕ
 atomsIn (clause atoms) = length atoms
 atomsIn (equality m ps) = 0
+atomsIn (starting a) = 0
 
 -- the empty clause stands in the bytes at 32, where its tag byte is; it does not stand at 33, and at 5 another clause is read
 pub example-stands : StandsIn exampleBytes (record { place = 32; rule = clause [] }) × (StandsIn exampleBytes (record { place = 33; rule = clause [] }) → ⊥)

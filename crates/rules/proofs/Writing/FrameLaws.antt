@@ -8,7 +8,7 @@ use lib.Dec.{T, eqb, eqb→eq, lit<}
 use lib.ListN.{length, getD, take, drop, take-append-drop}
 use lib.Seq.{drop-drop, length-take-le}
 use Rattle.rules.specs.declared.field.Tag.{Tag}
-use Rattle.rules.specs.declared.field.Tag.the-variants.{Header, Clause, Equality, Unknown}
+use Rattle.rules.specs.declared.field.Tag.the-variants.{Header, Clause, Equality, Starting, Unknown}
 use Rattle.lists.specs.Lists.{Every}
 use Rattle.rules.specs.Reading.{pickTag, tagOf, lengthAt, setAt, headOf, contentOf, sizeOf}
 use Rattle.rules.specs.Writing.{twoBytes, fourBytes, framed}
@@ -74,9 +74,9 @@ set-of-read = by-front 4 _ λ a b c d rest small.
 -- ---- tags
 
 -- what holds of each known tag with its kind, and of every tag as an unknown one, holds of a tag and the kind that it announces
-pub tag-cases : (P : ℕ → Tag → Type 0) → P 1 Header → P 2 Clause → P 3 Equality → ((tag : ℕ) → P tag Unknown) → (tag : ℕ) → P tag (tagOf tag)
+pub tag-cases : (P : ℕ → Tag → Type 0) → P 1 Header → P 2 Clause → P 3 Equality → P 4 Starting → ((tag : ℕ) → P tag Unknown) → (tag : ℕ) → P tag (tagOf tag)
 unfolding tagOf
-tag-cases P one two three unknown tag = known 1 Header _ one (known 2 Clause _ two (known 3 Equality _ three (unknown tag)))
+tag-cases P one two three four unknown tag = known 1 Header _ one (known 2 Clause _ two (known 3 Equality _ three (known 4 Starting _ four (unknown tag))))
   where
     pick : (b : Bool) (kind other : Tag) → (T b → P tag kind) → P tag other → P tag (pickTag b kind other)
     pick true kind other holds fails = holds tt

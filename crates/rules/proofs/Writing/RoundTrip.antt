@@ -1,5 +1,5 @@
 -- Reading a file gives exactly the file that was written, and refuses exactly what is no sound file. Assumes nothing.
-use mathlib.Core.Path.{_≡_, refl, ap, _∙_, subst}
+use mathlib.Core.Path.{_≡_, refl, sym, ap, _∙_, subst}
 use mathlib.Core.List.{List, [], _∷_, _++_}
 use mathlib.Core.Logic.{_↔_}
 use Prim.Native.Nat.{ℕ, zero, suc, _+_, _≤_, _<_}
@@ -8,59 +8,68 @@ use lib.ListN.{length, getD, drop, length-append, length-drop}
 use lib.Seq.{drop-append-seam}
 use Rattle.lists.specs.Lists.{Every}
 use Rattle.rules.specs.Rules.{Rule, File}
-use Rattle.rules.specs.Reading.{lengthAt, headOf, contentOf, fieldFault, ruleAt, headerFault, Reading, sound, refused, sizeOf, readFields, reading}
-use Rattle.rules.specs.Writing.{twoBytes, framed, writtenRule, writtenRules, written, RuleFits, Within}
+use Rattle.rules.specs.Reading.{lengthAt, headOf, contentOf, ruleAt, seenWith, faultAfter, headerFault, Reading, sound, refused, sizeOf, readFields, reading}
+use Rattle.rules.specs.Writing.{twoBytes, framed, writtenRule, writtenRules, written, RuleFits, Unseen, OneStart, Within}
 use Rattle.rules.proofs.Reading.FieldByField.{refuse-for-sound, with-rule-sound, read-done, read-step, field-shortens}
-use Rattle.rules.proofs.Reading.FaultlessLaws.{SoundField, SoundHeader, field-fault-none, header-fault-none}
+use Rattle.rules.proofs.Reading.FaultlessLaws.{SoundField, SoundHeader, fault-after-none, header-fault-none}
 use Rattle.rules.proofs.Writing.FrameLaws.{Byte, by-front, bytes-drop}
-use Rattle.rules.proofs.Writing.WrittenLaws.{written-long, rule-of-written, size-of-written, fault-of-written, rule-of-read, fits-of-read}
+use Rattle.rules.proofs.Writing.WrittenLaws.{written-long, rule-of-written, size-of-written, sound-of-written, rule-of-read, fits-of-read}
 
 -- ---- rules that were written are read back
 
-rules-of-written : (rules : List Rule) (k v n place : ℕ) → length (writtenRules rules) ≤ k → Every (RuleFits v n) rules
-    → readFields k v n place (writtenRules rules) ≡ sound (record { v = v; n = n; rules = rules })
+-- a rule within the limits, for a position that was not seen, has no fault
+fault-of-written : (r : Rule) (rest : List ℕ) (v n seen : ℕ) → RuleFits v n r → Unseen seen r → faultAfter v n seen (writtenRule r ++ rest) ≡ 0
+fault-of-written r rest v n seen fits new =
+    fault-after-none v n seen (writtenRule r ++ rest) .1 (sound-of-written r rest v n fits, subst (Unseen seen) (sym (rule-of-written r rest)) new)
+
+rules-of-written : (rules : List Rule) (k v n seen place : ℕ) → length (writtenRules rules) ≤ k → Every (RuleFits v n) rules → OneStart seen rules
+    → readFields k v n seen place (writtenRules rules) ≡ sound (record { v = v; n = n; rules = rules })
 unfolding writtenRules
-rules-of-written [] k v n place h fits = read-done k v n place [] refl
-rules-of-written (r ∷ rs) zero v n place h fits = absurd (omega (arith, length-append (writtenRule r) (writtenRules rs), written-long r))
-rules-of-written (r ∷ rs) (suc k) v n place h fits =
+rules-of-written [] k v n seen place h fits one = read-done k v n seen place [] refl
+rules-of-written (r ∷ rs) zero v n seen place h fits one = absurd (omega (arith, length-append (writtenRule r) (writtenRules rs), written-long r))
+rules-of-written (r ∷ rs) (suc k) v n seen place h fits one =
     let rest = writtenRules rs in
     let sum = length-append (writtenRule r) rest in
     let long = written-long r in
-    let later = rules-of-written rs k v n (place + length (writtenRule r)) (omega arith) (fits .1) in
-    read-step k v n place (writtenRule r ++ rest) (omega arith)
-    ∙ rw (fault-of-written r rest v n (fits .0), rule-of-written r rest, size-of-written r rest, drop-append-seam, later)
+    let later = rules-of-written rs k v n (seenWith r seen) (place + length (writtenRule r)) (omega arith) (fits .1) (one .1) in
+    read-step k v n seen place (writtenRule r ++ rest) (omega arith)
+    ∙ rw (fault-of-written r rest v n seen (fits .0) (one .0), rule-of-written r rest, size-of-written r rest, drop-append-seam, later)
 
 -- ---- rules that were read are written back
 
--- the bytes are the rules of the file written, each within the limits
-record RulesRead (v n : ℕ) (bytes : List ℕ) (file : File) : Type 0 where
+-- the bytes are the rules of the file written, each within the limits, and no position seen has one more starting set
+record RulesRead (v n seen : ℕ) (bytes : List ℕ) (file : File) : Type 0 where
   rules : List Rule
   whole : record { v = v; n = n; rules = rules } ≡ file
   bytes-written : bytes ≡ writtenRules rules
   fits : Every (RuleFits v n) rules
+  one : OneStart seen rules
 
-no-rules-read : (v n : ℕ) (file : File) → sound (record { v = v; n = n; rules = [] }) ≡ sound file → RulesRead v n [] file
+no-rules-read : (v n seen : ℕ) (file : File) → sound (record { v = v; n = n; rules = [] }) ≡ sound file → RulesRead v n seen [] file
 unfolding writtenRules
-no-rules-read v n file e = record { rules = []; whole = cc; bytes-written = refl; fits = tt }
+no-rules-read v n seen file e = record { rules = []; whole = cc; bytes-written = refl; fits = tt; one = tt }
 
-rules-of-read : (k v n place : ℕ) (bytes : List ℕ) (file : File) → length bytes ≤ k → Every Byte bytes → readFields k v n place bytes ≡ sound file
-    → RulesRead v n bytes file
+rules-of-read : (k v n seen place : ℕ) (bytes : List ℕ) (file : File) → length bytes ≤ k → Every Byte bytes → readFields k v n seen place bytes ≡ sound file
+    → RulesRead v n seen bytes file
 unfolding readFields writtenRules
-rules-of-read zero v n place [] file h small e = no-rules-read v n file e
-rules-of-read zero v n place (b ∷ bs) file h small e = absurd (omega arith)
-rules-of-read (suc k) v n place [] file h small e = no-rules-read v n file e
-rules-of-read (suc k) v n place (b ∷ bs) file h small e =
+rules-of-read zero v n seen place [] file h small e = no-rules-read v n seen file e
+rules-of-read zero v n seen place (b ∷ bs) file h small e = absurd (omega arith)
+rules-of-read (suc k) v n seen place [] file h small e = no-rules-read v n seen file e
+rules-of-read (suc k) v n seen place (b ∷ bs) file h small e =
     let bytes : List ℕ = b ∷ bs in
     let rest : List ℕ = drop (sizeOf bytes) bytes in
-    let step = refuse-for-sound (fieldFault v n bytes) place _ file e in
-    let field : SoundField v n bytes = field-fault-none v n bytes .0 (step .0) in
-    let found = with-rule-sound (ruleAt bytes) (readFields k v n (place + sizeOf bytes) rest) file (step .1) in
-    let more = rules-of-read k v n (place + sizeOf bytes) rest (found .0) (field-shortens k bytes h) (bytes-drop (sizeOf bytes) bytes small) (found .1) in
+    let seen′ : ℕ = seenWith (ruleAt bytes) seen in
+    let step = refuse-for-sound (faultAfter v n seen bytes) place _ file e in
+    let passed = fault-after-none v n seen bytes .0 (step .0) in
+    let field : SoundField v n bytes = passed .0 in
+    let found = with-rule-sound (ruleAt bytes) (readFields k v n seen′ (place + sizeOf bytes) rest) file (step .1) in
+    let more = rules-of-read k v n seen′ (place + sizeOf bytes) rest (found .0) (field-shortens k bytes h) (bytes-drop (sizeOf bytes) bytes small) (found .1) in
     record {
       rules = ruleAt bytes ∷ more .rules;
       whole = cc;
       bytes-written = rule-of-read v n bytes field small ∙ ap (λ (l : List ℕ). writtenRule (ruleAt bytes) ++ l) (more .bytes-written);
       fits = (fits-of-read v n bytes field small, more .fits);
+      one = (passed .1, more .one);
     }
 
 -- ---- the header
@@ -81,17 +90,17 @@ header-of-read = by-front 5 _ λ tag high low v n rest header.
 -- ---- the whole file
 
 -- behind the header that was written
-behind : (v n : ℕ) (rules : List Rule) → Every (RuleFits v n) rules
-    → readFields (length (framed 1 (v ∷ n ∷ []) ++ writtenRules rules)) v n 5 (writtenRules rules) ≡ sound (record { v = v; n = n; rules = rules })
+behind : (v n : ℕ) (rules : List Rule) → Every (RuleFits v n) rules → OneStart 0 rules
+    → readFields (length (framed 1 (v ∷ n ∷ []) ++ writtenRules rules)) v n 0 5 (writtenRules rules) ≡ sound (record { v = v; n = n; rules = rules })
 unfolding framed twoBytes
-behind v n rules fits = rules-of-written rules _ v n 5 (omega arith) fits
+behind v n rules fits one = rules-of-written rules _ v n 0 5 (omega arith) fits one
 
 -- a file within the limits that was written is read back
 pub read-of-written : (file : File) → Within file → reading (written file) ≡ sound file
 unfolding reading written framed twoBytes
 read-of-written file within =
     rw (header-of-written (file .v) (file .n) (writtenRules (file .rules)) (within .positions) (within .values))
-    (behind (file .v) (file .n) (file .rules) (within .rules))
+    (behind (file .v) (file .n) (file .rules) (within .rules) (within .starts))
 
 -- a file that was read is written back, and is within the limits
 pub written-of-read : (s : List ℕ) → Every (λ b. b < 256) s → (file : File) → reading s ≡ sound file → (s ≡ written file) × Within file
@@ -99,10 +108,10 @@ unfolding reading written contentOf
 written-of-read s small file e =
     let step = refuse-for-sound (headerFault s) 0 _ file e in
     let header : SoundHeader s = header-fault-none s .0 (step .0) in
-    let found = rules-of-read (length s) (getD s 3 0) (getD s 4 0) 5 (drop 5 s) file (omega (arith, length-drop 5 s)) (bytes-drop 5 s small) (step .1) in (
+    let found = rules-of-read (length s) (getD s 3 0) (getD s 4 0) 0 5 (drop 5 s) file (omega (arith, length-drop 5 s)) (bytes-drop 5 s small) (step .1) in (
       header-of-read s (omega (arith, length-drop 3 s)) header
           ∙ ap (λ (l : List ℕ). framed 1 (getD s 3 0 ∷ getD s 4 0 ∷ []) ++ l) (found .bytes-written) ∙ ap written (found .whole),
-      subst Within (found .whole) (record { positions = header .positions; values = header .values; rules = found .fits }),
+      subst Within (found .whole) (record { positions = header .positions; values = header .values; rules = found .fits; starts = found .one }),
     )
 
 -- reading gives a file exactly if the bytes are that file written and the file is within the limits
@@ -126,4 +135,4 @@ refused-exactly s small = (
 pub header-alone : (v n : ℕ) → 1 ≤ v → v ≤ 64 → 1 ≤ n → n ≤ 32 → reading (1 ∷ 0 ∷ 2 ∷ v ∷ n ∷ []) ≡ sound (record { v = v; n = n; rules = [] })
 unfolding written writtenRules framed twoBytes
 header-alone v n v-low v-high n-low n-high =
-    read-of-written (record { v = v; n = n; rules = [] }) (record { positions = (v-low, v-high); values = (n-low, n-high); rules = tt })
+    read-of-written (record { v = v; n = n; rules = [] }) (record { positions = (v-low, v-high); values = (n-low, n-high); rules = tt; starts = tt })

@@ -8,14 +8,14 @@ use lib.Dec.{T}
 use lib.ListN.{length, take, drop, length-append, length-drop}
 use lib.Seq.{take-append-seam, take-add, length-take-le}
 use Rattle.rules.specs.declared.field.Tag.{Tag}
-use Rattle.rules.specs.declared.field.Tag.the-variants.{Header, Clause, Equality, Unknown}
+use Rattle.rules.specs.declared.field.Tag.the-variants.{Header, Clause, Equality, Starting, Unknown}
 use Rattle.rules.specs.declared.field.Atom.{Atom}
 use Rattle.lists.specs.Lists.{Every}
-use Rattle.rules.specs.Rules.{Rule, clause, equality}
-use Rattle.rules.specs.Reading.{tagOf, setAt, atomOf, headOf, contentOf, atomsOf, ruleOf, lengthFits, tagFault, ruleFault, ruleAt, fieldFault, sizeOf}
+use Rattle.rules.specs.Rules.{Rule, clause, equality, starting}
+use Rattle.rules.specs.Reading.{tagOf, setAt, atomOf, headOf, contentOf, atomsOf, ruleOf, lengthFits, tagFault, ruleFault, ruleAt, sizeOf}
 use Rattle.rules.specs.Writing.{fourBytes, writtenAtoms, tagByte, contentBytes, writtenRule, RuleFits}
-use Rattle.rules.proofs.Reading.ContentLaws.{clause-length, equality-length}
-use Rattle.rules.proofs.Reading.FaultlessLaws.{tests, clause-fault-none, equality-fault-none, SoundField, field-fault-none}
+use Rattle.rules.proofs.Reading.ContentLaws.{clause-length, equality-length, starting-length}
+use Rattle.rules.proofs.Reading.FaultlessLaws.{tests, clause-fault-none, equality-fault-none, starting-fault-none, SoundField}
 use Rattle.rules.proofs.Writing.FrameLaws.{Byte, bytes-drop, length-below, set-of-written, set-of-read, tag-cases, framed-length, head-of-framed, content-of-framed, framed-of-read}
 
 -- ---- a rule's tag and content
@@ -24,6 +24,7 @@ rule-tag : (r : Rule) → tagFault (tagOf (tagByte r)) ≡ 0
 unfolding tagOf tagByte tagFault
 rule-tag (clause atoms) = refl
 rule-tag (equality m ps) = refl
+rule-tag (starting a) = refl
 
 atoms-length : (atoms : List Atom) → length (writtenAtoms atoms) ≡ length atoms * 5
 unfolding writtenAtoms fourBytes
@@ -44,6 +45,7 @@ rule-fits : (v n : ℕ) (r : Rule)
 unfolding tagOf lengthFits tagByte contentBytes fourBytes
 rule-fits v n (clause atoms) = simp (tests, clause-fault-none, atoms-length) (λ h. (omega arith, h .0, h .1), λ h. (h .1, h .2))
 rule-fits v n (equality m ps) = simp (tests, equality-fault-none) (λ h. (omega arith, omega arith, (h .1, h .2)), λ h. (omega arith, h .2 .0, h .2 .1))
+rule-fits v n (starting a) = simp (tests, starting-fault-none, atoms-length) (λ h. (omega arith, omega arith, h), λ h. h .2)
 
 -- so a rule within the limits has no fault
 pub fits-faultless : (v n : ℕ) (r : Rule) → RuleFits v n r → ruleFault v n r ≡ 0
@@ -59,13 +61,14 @@ atoms-of-written (a ∷ more) rest =
     (set-of-written (a .set) (writtenAtoms more ++ rest)) (atoms-of-written more rest)
 
 rule-of-content : (r : Rule) (rest : List ℕ) → ruleOf (tagOf (tagByte r)) (length (contentBytes r)) (contentBytes r ++ rest) ≡ r
-unfolding tagOf ruleOf tagByte contentBytes fourBytes
+unfolding tagOf ruleOf tagByte contentBytes writtenAtoms fourBytes atomOf setAt
 rule-of-content (clause atoms) rest =
     let number : length (writtenAtoms atoms) / 5 ≡ length atoms = omega (arith, atoms-length atoms) in
     rw (number, atoms-of-written)
 rule-of-content (equality m ps) rest =
     let number : length (fourBytes m ++ ps) - 4 ≡ length ps = omega arith in
     rw (number, take-append-seam ps rest, set-of-written m (ps ++ rest))
+rule-of-content (starting a) rest = ap (λ (m : ℕ). starting (record { position = a .position; set = m })) (set-of-written (a .set) rest)
 
 -- ---- a content that was read is written back
 
@@ -85,8 +88,11 @@ atoms-of-read (suc k) bytes small h =
 
 content-of-rule : (kind : Tag) (len : ℕ) (content : List ℕ) → Every Byte content → tagFault kind ≡ 0 → T (lengthFits kind len)
     → len ≤ length content → contentBytes (ruleOf kind len content) ≡ take len content
-unfolding ruleOf contentBytes tagFault
+unfolding ruleOf contentBytes tagFault atomsOf
 content-of-rule Header len content small f t h = absurd (omega arith)
+content-of-rule Starting len content small f t h =
+    let five = starting-length len t in
+    atoms-of-read 1 content small (omega arith) ∙ ap (λ (j : ℕ). take j content) (sym five)
 content-of-rule Unknown len content small f t h = absurd (omega arith)
 content-of-rule Clause len content small f t h =
     let whole = clause-length len t in
@@ -102,7 +108,7 @@ tag-of-rule : (tag len : ℕ) (content : List ℕ) → tagFault (tagOf tag) ≡ 
 unfolding ruleOf tagByte tagFault
 tag-of-rule tag len content =
     tag-cases (λ byte kind. tagFault kind ≡ 0 → tagByte (ruleOf kind len content) ≡ byte)
-    (λ f. absurd (omega arith)) (λ f. refl) (λ f. refl) (λ byte f. absurd (omega arith)) tag
+    (λ f. absurd (omega arith)) (λ f. refl) (λ f. refl) (λ f. refl) (λ byte f. absurd (omega arith)) tag
 
 atoms-count : (k : ℕ) (bytes : List ℕ) → length (atomsOf k bytes) ≡ k
 unfolding atomsOf
@@ -120,6 +126,7 @@ length-of-rule Clause len content f t h =
 length-of-rule Equality len content f t h =
     let long = equality-length len t in
     omega (arith, length-take-le (len - 4) (drop 4 content) (omega (arith, length-drop 4 content)))
+length-of-rule Starting len content f t h = omega (arith, starting-length len t, atoms-length (atomOf content ∷ []))
 
 -- ---- the bytes of a rule that was written, and what follows them
 
@@ -142,17 +149,17 @@ module _ (r : Rule) (rest : List ℕ) where
   unfolding sizeOf
   size-of-written = rw (head-of-written, written-length)
 
-  -- a rule within the limits has no fault
-  pub fault-of-written : (v n : ℕ) → RuleFits v n r → fieldFault v n (writtenRule r ++ rest) ≡ 0
-  fault-of-written v n fits =
+  -- a rule within the limits passes the tests of a field
+  pub sound-of-written : (v n : ℕ) → RuleFits v n r → SoundField v n (writtenRule r ++ rest)
+  sound-of-written v n fits =
       let f = rule-fits v n r .0 fits in
-      field-fault-none v n (writtenRule r ++ rest) .1 (record {
+      record {
         head-there = rw length-append (omega (arith, written-long r));
         tag-fits = rw head-of-written (rule-tag r);
         length-fits = rw head-of-written (f .0);
         content-there = rw (head-of-written, content-of-written, length-append) (omega arith);
         rule-faultless = rw rule-of-written (f .2);
-      })
+      }
 
 -- ---- bytes that start with a field without a fault
 

@@ -143,6 +143,12 @@ set-inside box i room t =
 pub rooms-at : (box : List ℕ) (i : ℕ) → Rooms box → i < length box → (getD box i 0 < 2 ^ 32) × (getD box i 0 ≡ 0 → ⊥)
 rooms-at = every-at-place (λ room. (room < 2 ^ 32) × (room ≡ 0 → ⊥))
 
+-- every room is a mask, as is the empty one that is read past the last
+pub room-below : (box : List ℕ) (i : ℕ) → Rooms box → getD box i 0 < 2 ^ 32
+room-below [] i rooms = omega arith
+room-below (room ∷ box) zero rooms = rooms .0 .0
+room-below (room ∷ box) (suc i) rooms = room-below box i (rooms .1)
+
 -- rooms stay masks and not empty where the new one is
 pub rooms-set : (box : List ℕ) (i room : ℕ) → Rooms box → room < 2 ^ 32 → (room ≡ 0 → ⊥) → Rooms (set box i room)
 rooms-set box i room h l n = every-set (λ r. (r < 2 ^ 32) × (r ≡ 0 → ⊥)) box i room h (l, n)

@@ -60,7 +60,11 @@ unfolding spareValues
 spare-most [] rooms = omega arith
 spare-most (room ∷ box) rooms = omega (arith, spare-most box (rooms .1), count-at-most room (rooms .0 .0))
 
--- a smaller box that is another box has fewer of them
+-- a smaller box has no more of them
+pub spare-inside : (b c : List ℕ) → Rooms b → Rooms c → BoxInside b c → spareValues b ≤ spareValues c
+spare-inside b c hb hc i = omega (arith, open-inside b c hb hc i, open-spare b hb, open-spare c hc, box-inside-length b c i)
+
+-- one that is another box has fewer
 pub spare-falls : (b c : List ℕ) → Rooms b → Rooms c → BoxInside b c → (b ≡ c → ⊥) → spareValues b < spareValues c
 spare-falls b c hb hc i ne = omega (arith, open-falls b c hb hc i ne, open-spare b hb, open-spare c hc, box-inside-length b c i)
 

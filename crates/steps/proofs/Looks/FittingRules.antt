@@ -6,29 +6,36 @@ use lib.ListN.{length}
 use Rattle.sets.specs.Sets.{full, single, values}
 use Rattle.sets.proofs.Sameness.{inside-below, full-below, single-below}
 use Rattle.lists.specs.Lists.{Every}
-use Rattle.rules.specs.Rules.{Rule, clause, equality, Field, File}
+use Rattle.rules.specs.Rules.{Rule, clause, equality, starting, Field, File}
 use Rattle.rules.specs.Parts.{oneOf, atomIn, equalityParts, partsOf}
 use Rattle.rules.specs.Reading.{ruleFault, sound, reading}
 use Rattle.rules.specs.Sound.{fileOf, fieldsIn, SoundInput}
-use Rattle.rules.specs.Writing.{fieldsOf, PositionFits, SetFits, RuleFits, Within}
+use Rattle.rules.specs.declared.field.Atom.{Atom}
+use Rattle.rules.specs.Writing.{fieldsOf, PositionFits, SetFits, AtomFits, RuleFits, Within}
 use Rattle.lists.proofs.ListLaws.{every-of-listed, every-over-append, every-over-map, every-map}
 use Rattle.rules.proofs.EqualityMeaning.{MaskFits}
 use Rattle.rules.proofs.Writing.PlaceLaws.{every-field}
 use Rattle.rules.proofs.Writing.WrittenLaws.{fits-faultless}
-use Rattle.rules.proofs.Reading.FaultlessLaws.{clause-fault-none, equality-fault-none}
+use Rattle.rules.proofs.Reading.FaultlessLaws.{clause-fault-none, equality-fault-none, starting-fault-none}
 use Rattle.rules.proofs.Reading.RefusalLaws.{Faultless, read-faultless}
 use Rattle.steps.specs.Boxes.{BoxInside}
 use Rattle.steps.proofs.Boxes.BoxLaws.{same-length}
 use Rattle.steps.proofs.Looks.ClauseLaws.{ClauseFits}
 use Rattle.steps.proofs.Looks.PartLaws.{PartFits}
 
-set-below : (n m : ℕ) → SetFits n m → m < 2 ^ 32
+-- a set within {1..n} is a mask
+pub set-below : (n m : ℕ) → SetFits n m → m < 2 ^ 32
 set-below n m i = inside-below m (full n) i (full-below n)
+
+-- an atom within the limits names a position 1 to v, and its set is a mask
+atom-fits : (v n : ℕ) (a : Atom) → AtomFits v n a → (1 ≤ a .position) × (a .position ≤ v) × (a .set < 2 ^ 32)
+atom-fits v n a h = (h .0 .0, h .0 .1, set-below n (a .set) (h .1))
 
 -- the set of a rule without a fault is a mask
 rule-mask : (v n : ℕ) (rule : Rule) → ruleFault v n rule ≡ 0 → MaskFits rule
 rule-mask v n (clause atoms) e = tt
 rule-mask v n (equality m ps) e = set-below n m (equality-fault-none v n m ps .0 e .0)
+rule-mask v n (starting a) e = tt
 
 -- a clause that asks of some positions that they be in a mask fits
 atoms-fit : (v m : ℕ) (ps : List ℕ) → Every (PositionFits v) ps → m < 2 ^ 32 → ClauseFits v (map (atomIn m) ps)
@@ -40,10 +47,10 @@ atoms-fit v m (p ∷ ps) fits mask = ((fits .0 .0, fits .0 .1, mask), atoms-fit 
 parts-fit : (v n : ℕ) (rule : Rule) → ruleFault v n rule ≡ 0 → Every (PartFits v) (partsOf rule)
 unfolding partsOf equalityParts
 parts-fit v n (clause atoms) e = (
-  every-map (λ a. PositionFits v (a .position) × SetFits n (a .set)) (λ a. (1 ≤ a .position) × (a .position ≤ v) × (a .set < 2 ^ 32)) atoms
-      (λ a h. (h .0 .0, h .0 .1, set-below n (a .set) (h .1))) (clause-fault-none v n atoms .0 e),
+  every-map (AtomFits v n) (λ a. (1 ≤ a .position) × (a .position ≤ v) × (a .set < 2 ^ 32)) atoms (atom-fits v n) (clause-fault-none v n atoms .0 e),
   tt,
 )
+parts-fit v n (starting a) e = ((atom-fits v n a (starting-fault-none v n a .0 e .0), tt), tt)
 parts-fit v n (equality m ps) e =
     every-over-append (PartFits v) (map (λ p. oneOf (atomIn m p ∷ [])) ps) (map (λ x. oneOf (map (atomIn (single x)) ps)) (values m)) .1 (named, taken)
   where

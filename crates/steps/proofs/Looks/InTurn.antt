@@ -68,6 +68,10 @@ module _ {A : Type 0} (look : A → List ℕ → Look) where
       go rest (dead p) = refl
       go rest (alive b) = rest b
 
+  -- so where some looks are dead, they are with others behind them
+  pub in-turn-front : (xs ys : List A) (box : List ℕ) (p : ℕ) → inTurn look xs box ≡ dead p → inTurn look (xs ++ ys) box ≡ dead p
+  in-turn-front xs ys box p e = in-turn-append xs ys box ∙ ap (λ (l : Look). ifAlive l (λ q. dead q) (λ b. inTurn look ys b)) e
+
   -- where the looks are dead, one of them is, at some box
   pub in-turn-killed : (xs : List A) (box : List ℕ) (p : ℕ) → inTurn look xs box ≡ dead p → Some (λ x. (b : List ℕ) × (look x b ≡ dead p)) xs
   unfolding inTurn

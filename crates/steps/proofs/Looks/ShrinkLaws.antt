@@ -132,10 +132,14 @@ module _ (fields : List Field) where
           let s = round-sound b a (q .0) fit (q .1) m in
           (s .0, s .1, (round-inside b (s .0) (q .0) (s .1) .1, s .2))
 
+  -- what each round keeps, shrinking keeps
+  pub shrunk-keeps : (Q : List ℕ → Type 0) → Keeps Q (round fields) → (box box′ : List ℕ) → Rooms box → Q box → shrunk fields box ≡ alive box′ → Q box′
+  shrunk-keeps Q each box box′ rooms q e = rounds-keep Q each (shrunk-rounds box rooms) box′ e q
+
   -- the shrunk box lies inside the box before, and no room is empty
   pub shrunk-inside : Inward (shrunk fields)
-  shrunk-inside box box′ rooms e =
-      rounds-keep (λ c. BoxInside c box × Rooms c) (inward-from (round fields) box round-inside rooms) (shrunk-rounds box rooms) box′ e (box-inside-refl box, rooms)
+  shrunk-inside box box′ rooms =
+      shrunk-keeps (λ c. BoxInside c box × Rooms c) (inward-from (round fields) box round-inside rooms) box box′ rooms (box-inside-refl box, rooms)
 
   -- nothing is left to cut in a shrunk box
   pub shrunk-fixed : (box box′ : List ℕ) → Rooms box → shrunk fields box ≡ alive box′ → round fields box′ ≡ alive box′

@@ -90,12 +90,12 @@ module _ {fields : List Field} {box : List ℕ} {Plan : List ℕ → Type 0} (st
       ((reply .number ≡ 1) × (reply .splits ≡ 0))
       ⊎ ((reply .number ≡ 0) × (reply .deadEnds ≡ 0) × ((b : List ℕ) → Plan b → (i : ℕ) → getD (reply .values) i 0 ≤ getD b i 0))
 
-  -- the special kind gets such a reply where as many splits are allowed as there are rooms to split
-  pub special-decides : T (specialRules (length box) fields) → wideRooms box ≤ allowed → SpecialReply
+  -- the special kind, by the box that is searched as the starting sets, gets such a reply where as many splits are allowed as there are rooms to split
+  pub special-decides : T (specialRules (length box) box fields) → wideRooms box ≤ allowed → SpecialReply
   special-decides kind h = go (shrunk fields box) refl
     where
       go : (l : Look) → shrunk fields box ≡ l → SpecialReply
       go (dead place) e = let found = explored-dead fields box place e in rw (enough (omega (arith, ap (λ (r : Reply). r .splits) found)), found) (inl (refl, refl))
       go (alive inner) e =
-          let low = special-plan fields box inner (start .rooms) (start .fits, kind) e in
+          let low = special-plan fields box (start .rooms) (start .fits) kind inner e in
           rw (enough (omega arith)) (inr (low .number, low .deadEnds, λ b p i. low .lowest b (start .plans b .1 p) i))

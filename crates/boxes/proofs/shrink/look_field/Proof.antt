@@ -2,9 +2,9 @@
 use mathlib.Core.Path.{sym, _∙_}
 use Prim.Native.Nat.{_+_}
 use native.Mathlib.Omega.{arith}
-use Rattle.rules.specs.declared.field.Tag.the-variants.{Header, Clause, Equality, Unknown}
+use Rattle.rules.specs.declared.field.Tag.the-variants.{Header, Clause, Equality, Starting, Unknown}
 use Rattle.rules.proofs.Reading.WalkLaws.{partFrom, FieldHere, walk-head, walk-field}
-use Rattle.boxes.proofs.FieldLooks.{look-there, look-clause-there}
+use Rattle.boxes.proofs.FieldLooks.{look-there, look-clause-there, look-start-there}
 use borrow.Author.Needs.{needs}
 use Rattle.boxes.proofs.shrink.look_field.Statement.{statement}
 use Rattle.boxes.proofs.shrink.look_field.Tie as tie
@@ -52,6 +52,12 @@ look-equality-requires c κs =
 enum-told-4 : tie.Need-enum-told-4
 enum-told-4 c = search needs
 
+look-atoms-requires-2 : tie.Need-look-atoms-requires-2
+look-atoms-requires-2 c κs = let read = c .before .before .before .before in here read .fits Starting (sym (read .tag-of .ensures) ∙ c .before .enum-told4 .given .1) .1
+
+enum-told-5 : tie.Need-enum-told-5
+enum-told-5 c = search needs
+
 returns : tie.Need-returns
 returns c = let read = c .before .before .before in absurd (here read .fits Header (sym (read .tag-of .ensures) ∙ c .enum-told .given .1))
 
@@ -62,7 +68,10 @@ returns-3 : tie.Need-returns-3
 returns-3 c = let read = c .before .before .before .before .before in look-there (here read) Equality (sym (read .tag-of .ensures) ∙ c .before .before .enum-told3 .given .1) (c .look-equality .ensures)
 
 returns-4 : tie.Need-returns-4
-returns-4 c = let read = c .before .before .before in absurd (here read .fits Unknown (sym (read .tag-of .ensures) ∙ c .enum-told4 .given .1))
+returns-4 c = let read = c .before .before .before .before .before in look-start-there (here read) (sym (read .tag-of .ensures) ∙ c .before .before .enum-told4 .given .1) (c .look-atoms2 .ensures .leaves)
+
+returns-5 : tie.Need-returns-5
+returns-5 c = let read = c .before .before .before in absurd (here read .fits Unknown (sym (read .tag-of .ensures) ∙ c .enum-told5 .given .1))
 
 pub look-field-spec : {M : Type 1} → statement M
 look-field-spec =
@@ -80,7 +89,10 @@ look-field-spec =
     enum-told-3
     look-equality-requires
     enum-told-4
+    look-atoms-requires-2
+    enum-told-5
     returns
     returns-2
     returns-3
-    returns-4)
+    returns-4
+    returns-5)

@@ -1,14 +1,18 @@
 -- `choosing::choose::choose` meets its contract. The loop over the fields: what those from `at` on leave to be split, below `best`, is what is chosen. The loop over a clause's atoms: the lowest live position below `best` is that by the atoms from `i` on, below `low`. The measures are the bytes left. Assumes nothing.
-use mathlib.Core.Path.{_≡_, sym, _∙_}
+use mathlib.Core.Path.{_≡_, refl, sym, _∙_, subst}
 use mathlib.Core.Logic.{inl, inr, ⊎-elim}
-use Prim.Native.Nat.{_+_, _-_, _≤_}
+use mathlib.Core.List.{List, [], _∷_}
+use Prim.Native.Nat.{ℕ, _+_, _-_, _≤_}
 use native.Mathlib.Omega.{arith}
 use lib.ListN.{length}
+use types.Run.{OneOf, miss}
+use denote.Enum.Declared.{tagOf as variant}
 use borrow.Author.Needs.{needs}
 use borrow.Author.Tests.{ltb-false, eqb-true, eqb-false, not-true, not-false}
 use Rattle.lists.specs.Lowest.{lowest}
 use Rattle.rules.specs.declared.field.Tag.{Tag}
-use Rattle.rules.specs.declared.field.Tag.the-variants.{Header, Clause, Equality, Unknown}
+use Rattle.rules.specs.declared.field.Tag.the-variants.{Clause}
+use Rattle.rules.proofs.field.Tag.{the-type}
 use Rattle.rules.specs.Contents.{ContentFits}
 use Rattle.rules.specs.Reading.{tagOf}
 use Rattle.rules.proofs.Reading.WalkLaws.{partFrom, FieldHere, sound-limits, walk-start, walk-head, walk-field}
@@ -88,27 +92,18 @@ add-at-2 c = omega (arith, field (c .before) .ends)
 tag-of-requires : tie.Need-tag-of-requires Inv-loop μ-loop Inv-fields μ-fields
 tag-of-requires c κs = search needs
 
-enum-told : tie.Need-enum-told Inv-loop μ-loop Inv-fields μ-fields
-enum-told c = search needs
-
-fields-less : tie.Need-fields-less Inv-loop μ-loop Inv-fields μ-fields
-fields-less c = absurd (fits (c .before .before) Header (c .enum-told .given .1))
-
-fields-again : tie.Need-fields-again Inv-loop μ-loop Inv-fields μ-fields
-fields-again c = absurd (fits (c .before .before) Header (c .enum-told .given .1))
-
 -- the field of a clause: its tag, and its head
-abbrev tagged : tie.After-enum-told2 Inv-loop μ-loop Inv-fields μ-fields → tie.After-tag-of Inv-loop μ-loop Inv-fields μ-fields
+abbrev tagged : tie.After-enum-told Inv-loop μ-loop Inv-fields μ-fields → tie.After-tag-of Inv-loop μ-loop Inv-fields μ-fields
 tagged c = c .before .before
 
-abbrev head : tie.After-enum-told2 Inv-loop μ-loop Inv-fields μ-fields → tie.After-head-at Inv-loop μ-loop Inv-fields μ-fields
+abbrev head : tie.After-enum-told Inv-loop μ-loop Inv-fields μ-fields → tie.After-head-at Inv-loop μ-loop Inv-fields μ-fields
 head c = headed (tagged c)
 
-clause-told : (c : tie.After-enum-told2 Inv-loop μ-loop Inv-fields μ-fields) → tagOf (head c .head-at .result .tag) ≡ Clause
-clause-told c = kind-told (tagged c) Clause (c .enum-told2 .given .1)
+clause-told : (c : tie.After-enum-told Inv-loop μ-loop Inv-fields μ-fields) → tagOf (head c .head-at .result .tag) ≡ Clause
+clause-told c = kind-told (tagged c) Clause (c .enum-told .given .1)
 
 -- the clause of an atom that was read, and the atom, from the test of its room
-abbrev told : tie.After-atom-at Inv-loop μ-loop Inv-fields μ-fields → tie.After-enum-told2 Inv-loop μ-loop Inv-fields μ-fields
+abbrev told : tie.After-atom-at Inv-loop μ-loop Inv-fields μ-fields → tie.After-enum-told Inv-loop μ-loop Inv-fields μ-fields
 told t = t .before .before .before
 
 abbrev turn : tie.After-inside Inv-loop μ-loop Inv-fields μ-fields → tie.After-atom-at Inv-loop μ-loop Inv-fields μ-fields
@@ -120,11 +115,11 @@ position t =
     let fit = atom-fits (t .before .before .loop .inv .from) (t .before .loop-test .taken) (t .atom-at .ensures) in
     (fit .0, omega (arith, fit .1, going (head (told t)) .walk .few))
 
-enum-told-2 : tie.Need-enum-told-2 Inv-loop μ-loop Inv-fields μ-fields
-enum-told-2 c = search needs
+enum-told : tie.Need-enum-told Inv-loop μ-loop Inv-fields μ-fields
+enum-told c = search needs
 
 loop-holds : tie.Need-loop-holds Inv-loop μ-loop Inv-fields μ-fields
-loop-holds c = atoms-left-start (start (head c) .args .rooms .now) (turned (head c) .before .before .fields .best) (fits (tagged c) Clause (c .enum-told2 .given .1))
+loop-holds c = atoms-left-start (start (head c) .args .rooms .now) (turned (head c) .before .before .fields .best) (fits (tagged c) Clause (c .enum-told .given .1))
 
 atom-at-requires : tie.Need-atom-at-requires Inv-loop μ-loop Inv-fields μ-fields
 atom-at-requires c κs = omega (arith, atom-there (c .before .loop .inv .from) (c .loop-test .taken), field (head (c .before .before)) .there)
@@ -144,11 +139,11 @@ element-copy-out-t28 c = omega (arith, position (c .before))
 inside-requires : tie.Need-inside-requires Inv-loop μ-loop Inv-fields μ-fields
 inside-requires c κs = tt
 
-fields-less-2 : tie.Need-fields-less-2 Inv-loop μ-loop Inv-fields μ-fields
-fields-less-2 c = omega (arith, field (head (told (turn (c .before)))) .ends)
+fields-less : tie.Need-fields-less Inv-loop μ-loop Inv-fields μ-fields
+fields-less c = omega (arith, field (head (told (turn (c .before)))) .ends)
 
-fields-again-2 : tie.Need-fields-again-2 Inv-loop μ-loop Inv-fields μ-fields
-fields-again-2 c =
+fields-again : tie.Need-fields-again Inv-loop μ-loop Inv-fields μ-fields
+fields-again c =
     let t = turn (c .before) in
     let h = head (told t) in
     let shown = set-settles (start h .args .rooms .now) (t .before .before .loop .inv .from) (t .before .loop-test .taken) (t .atom-at .ensures) (c .before .inside .ensures .result) (c .if2 .taken) in
@@ -180,53 +175,43 @@ loop-again-2 c =
     (⊎-elim (λ w. inr (eqb-true _ 0 (not-false _ (w .1 .left)))) (λ w. inl (w .left)) (c .if3 .came))
 
 settled-united-requires : tie.Need-settled-united-requires Inv-loop μ-loop Inv-fields μ-fields
-settled-united-requires c κs = let t = c .before .before .before in fits (tagged t) Clause (t .enum-told2 .given .1)
+settled-united-requires c κs = let t = c .before .before .before in fits (tagged t) Clause (t .enum-told .given .1)
 
-fields-less-3 : tie.Need-fields-less-3 Inv-loop μ-loop Inv-fields μ-fields
-fields-less-3 c = omega (arith, field (head (c .before .before .before .before .before)) .ends)
+fields-less-2 : tie.Need-fields-less-2 Inv-loop μ-loop Inv-fields μ-fields
+fields-less-2 c = omega (arith, field (head (c .before .before .before .before .before)) .ends)
 
-fields-again-3 : tie.Need-fields-again-3 Inv-loop μ-loop Inv-fields μ-fields
-fields-again-3 c =
+fields-again-2 : tie.Need-fields-again-2 Inv-loop μ-loop Inv-fields μ-fields
+fields-again-2 c =
     let t = c .before .before .before .before .before in
     let h = head t in
     let masks = turned h .before .before .before .first-wide .ensures .1 in
     fields-left-on (going h) (field h) Clause (clause-told t)
     (clause-open (c .before .before .before .before .loop .inv) (c .before .before .before .loop-test .left) masks (sym (c .before .settled-united .ensures) ∙ not-true _ (c .if6 .taken))) _ (omega arith)
 
-fields-less-4 : tie.Need-fields-less-4 Inv-loop μ-loop Inv-fields μ-fields
-fields-less-4 c = omega (arith, field (head (c .before .before .before)) .ends)
+fields-less-3 : tie.Need-fields-less-3 Inv-loop μ-loop Inv-fields μ-fields
+fields-less-3 c = omega (arith, field (head (c .before .before .before)) .ends)
 
-fields-again-4 : tie.Need-fields-again-4 Inv-loop μ-loop Inv-fields μ-fields
-fields-again-4 c =
+fields-again-3 : tie.Need-fields-again-3 Inv-loop μ-loop Inv-fields μ-fields
+fields-again-3 c =
     let t = c .before .before .before in
     let h = head t in
     let inv = c .before .before .loop .inv in
     fields-left-on (going h) (field h) Clause (clause-told t)
     (⊎-elim (λ w. clause-shut inv (sym (w .1 .ensures) ∙ not-false _ (w .2 .left))) (λ w. clause-dull inv (c .before .loop-test .left) (w .left)) (c .if5 .came)) _ (omega arith)
 
-enum-told-3 : tie.Need-enum-told-3 Inv-loop μ-loop Inv-fields μ-fields
-enum-told-3 c = search needs
+lowest-by-kind-requires : tie.Need-lowest-by-kind-requires Inv-loop μ-loop Inv-fields μ-fields
+lowest-by-kind-requires c κs =
+    let h = c .before in
+    let others : List ℕ = 0 ∷ 2 ∷ 3 ∷ 4 ∷ [] in
+    (λ e. miss others 1 tt (subst (λ (kind : Tag). OneOf others (variant the-type kind)) e (c .match .keys2)), field (headed h) .there, fits h _ refl)
 
-lowest-by-equality-requires :
-    tie.Need-lowest-by-equality-requires Inv-loop μ-loop Inv-fields μ-fields
-lowest-by-equality-requires c κs = let h = c .before .before in let found = fits h Equality (c .enum-told3 .given .1) in (found .0, field (headed h) .there, found .1)
+fields-less-4 : tie.Need-fields-less-4 Inv-loop μ-loop Inv-fields μ-fields
+fields-less-4 c = omega (arith, field (headed (c .before .before)) .ends)
 
-fields-less-5 : tie.Need-fields-less-5 Inv-loop μ-loop Inv-fields μ-fields
-fields-less-5 c = omega (arith, field (headed (c .before .before .before)) .ends)
-
-fields-again-5 : tie.Need-fields-again-5 Inv-loop μ-loop Inv-fields μ-fields
-fields-again-5 c =
-    let h = c .before .before .before in
-    fields-left-on (going (headed h)) (field (headed h)) Equality (kind-told h Equality (c .before .enum-told3 .given .1)) (c .lowest-by-equality .ensures) _ (omega arith)
-
-enum-told-4 : tie.Need-enum-told-4 Inv-loop μ-loop Inv-fields μ-fields
-enum-told-4 c = search needs
-
-fields-less-6 : tie.Need-fields-less-6 Inv-loop μ-loop Inv-fields μ-fields
-fields-less-6 c = absurd (fits (c .before .before) Unknown (c .enum-told4 .given .1))
-
-fields-again-6 : tie.Need-fields-again-6 Inv-loop μ-loop Inv-fields μ-fields
-fields-again-6 c = absurd (fits (c .before .before) Unknown (c .enum-told4 .given .1))
+fields-again-4 : tie.Need-fields-again-4 Inv-loop μ-loop Inv-fields μ-fields
+fields-again-4 c =
+    let h = c .before .before in
+    fields-left-on (going (headed h)) (field (headed h)) _ (sym (h .tag-of .ensures)) (c .lowest-by-kind .ensures) _ (omega arith)
 
 returns : tie.Need-returns Inv-loop μ-loop Inv-fields μ-fields
 returns c = fields-left-narrow (c .before .before .fields .inv) (omega (arith, ltb-false (c .before .before .before .first-wide .result) (c .before .before .fields .best) (c .if1 .left), c .before .before .before .first-wide .ensures .0))
@@ -253,9 +238,6 @@ choose-spec =
     add-at-2
     tag-of-requires
     enum-told
-    fields-less
-    fields-again
-    enum-told-2
     loop-holds
     atom-at-requires
     cast-p
@@ -263,8 +245,8 @@ choose-spec =
     mul-t25
     element-copy-out-t28
     inside-requires
-    fields-less-2
-    fields-again-2
+    fields-less
+    fields-again
     add-i
     common-requires
     loop-less
@@ -272,16 +254,12 @@ choose-spec =
     loop-less-2
     loop-again-2
     settled-united-requires
+    fields-less-2
+    fields-again-2
     fields-less-3
     fields-again-3
+    lowest-by-kind-requires
     fields-less-4
     fields-again-4
-    enum-told-3
-    lowest-by-equality-requires
-    fields-less-5
-    fields-again-5
-    enum-told-4
-    fields-less-6
-    fields-again-6
     returns
     returns-2)

@@ -9,7 +9,7 @@ use borrow.Author.Tests.{not-true, not-false}
 use Rattle.lists.proofs.TestLaws.{true-test}
 use Rattle.sets.specs.Sets.{common, inside}
 use Rattle.steps.specs.Boxes.{roomAt}
-use Rattle.clauses.specs.Marks.{isMarked}
+use Rattle.sets.specs.Marks.{isMarked}
 use Rattle.clauses.proofs.AtomsInTurn.{atom-there}
 use Rattle.clauses.proofs.FrontRooms.{meets-front}
 use Rattle.clauses.proofs.SettledClauses.{set-settles, Trying, trying-starts, trying-ends, trying-fits, trying-outer, trying-passes, trying-meets, trying-knows, trying-settles, trying-tries}
@@ -61,7 +61,7 @@ outer c = let t = tested (c .before) in trying-outer (t .before .before .loop .i
 
 -- its position has a mark
 again : (c : tie.Else3 Inv-loop μ-loop) → let t = tested (met (c .before) .before) in T (isMarked (t .atom-at .result .position - 1) (t .before .before .loop .met))
-again c = true-test _ (sym (c .before .is-marked .ensures) ∙ not-false _ (c .if3 .left))
+again c = true-test _ (sym (c .before .is-marked .ensures .result) ∙ not-false _ (c .if3 .left))
 
 -- ---- the needs
 
@@ -122,7 +122,7 @@ loop-again-2 c =
     let m = c .before .before in
     let e = met m in
     let t = tested (e .before) in
-    trying-meets (t .before .before .loop .inv) (more (t .before)) (t .atom-at .ensures) (outer e) (λ u. subst T (sym (m .is-marked .ensures) ∙ not-true _ (c .before .if3 .taken)) u) (c .with-mark .ensures)
+    trying-meets (t .before .before .loop .inv) (more (t .before)) (t .atom-at .ensures) (outer e) (λ u. subst T (sym (m .is-marked .ensures .result) ∙ not-true _ (c .before .if3 .taken)) u) (c .with-mark .ensures .result)
 
 is-marked-requires-2 : tie.Need-is-marked-requires-2 Inv-loop μ-loop
 is-marked-requires-2 c κs = omega (arith, position (tested (met (c .before) .before)))
@@ -134,7 +134,7 @@ loop-again-3 : tie.Need-loop-again-3 Inv-loop μ-loop
 loop-again-3 c =
     let e = met (tried (c .before)) in
     let t = tested (e .before) in
-    trying-knows (t .before .before .loop .inv) (more (t .before)) (t .atom-at .ensures) (outer e) (again (c .before .before)) (true-test _ (sym (c .before .is-marked2 .ensures) ∙ c .if4 .taken))
+    trying-knows (t .before .before .loop .inv) (more (t .before)) (t .atom-at .ensures) (outer e) (again (c .before .before)) (true-test _ (sym (c .before .is-marked2 .ensures .result) ∙ c .if4 .taken))
 
 united-at-requires : tie.Need-united-at-requires Inv-loop μ-loop
 united-at-requires c κs = start (tested (met (tried (c .before)) .before)) .pre
@@ -161,7 +161,7 @@ loop-again-4 c =
     let h = held i in
     let e = met (tried h) in
     let t = tested (e .before) in
-    trying-tries (t .before .before .loop .inv) (more (t .before)) (t .atom-at .ensures) (outer e) (again (h .before)) (i .before .united-at .ensures) (i .inside2 .ensures .result) (c .before .if5 .left) (c .with-mark2 .ensures)
+    trying-tries (t .before .before .loop .inv) (more (t .before)) (t .atom-at .ensures) (outer e) (again (h .before)) (i .before .united-at .ensures) (i .inside2 .ensures .result) (c .before .if5 .left) (c .with-mark2 .ensures .result)
 
 returns-3 : tie.Need-returns-3 Inv-loop μ-loop
 returns-3 c = sym (trying-ends (c .before .loop .inv) (omega (arith, c .loop-test .left)))

@@ -63,7 +63,7 @@ cast-v : tie.Need-cast-v
 cast-v c = search needs
 
 start-rooms-requires : tie.Need-start-rooms-requires
-start-rooms-requires c κs = search needs
+start-rooms-requires c κs = sound-checked _ _ _ (sym (c .before .before .before .check .ensures) ∙ c .before .checked2 .given .1) .read
 
 search-from-requires : tie.Need-search-from-requires
 search-from-requires c κs =

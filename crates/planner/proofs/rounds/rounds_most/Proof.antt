@@ -28,7 +28,7 @@ enum-known-checked-2 : tie.Need-enum-known-checked-2
 enum-known-checked-2 c = search needs
 
 start-rooms-requires : tie.Need-start-rooms-requires
-start-rooms-requires c κs = search needs
+start-rooms-requires c κs = sound-checked _ _ _ (sym (c .before .before .before .check .ensures) ∙ c .before .checked2 .given .1) .read
 
 -- a sound file, from where its starting rooms are made: what was asked, its bytes, its positions and its values
 abbrev asked : tie.After-start-rooms → tie.After-check

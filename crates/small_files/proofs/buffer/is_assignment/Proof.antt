@@ -7,5 +7,4 @@ use Rattle.small_files.proofs.buffer.is_assignment.Tie as tie
 pub is-assignment-spec : {M : Type 1} → statement M
 is-assignment-spec =
     tie.close
-    (tie.spec (λ bytes v n i₀ i. i ≤ 68) (λ bytes v n i₀ i. 68 - i) (search needs) (search needs) (search needs)
-    (search needs) (search needs) (search needs) (search needs) (search needs))
+    (tie.spec (λ bytes sets i₀ i. i ≤ 68) (λ bytes sets i₀ i. 68 - i) (search needs) (search needs) (search needs) (search needs) (search needs) (search needs) (search needs) (search needs) (search needs))

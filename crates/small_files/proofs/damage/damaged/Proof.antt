@@ -9,7 +9,4 @@ use Rattle.small_files.proofs.damage.damaged.Tie as tie
 pub damaged-spec : {M : Type 1} → statement M
 damaged-spec =
     tie.close
-    (tie.spec
-    (λ state₀ file₀ tally₀ place₀ state file tally place. (place ≤ length file) × (length file ≡ length file₀))
-    (λ state₀ file₀ tally₀ place₀ state file tally place. length file - place) (search needs) (search needs)
-    (search needs) (search needs) (search needs) (search needs) (search needs) (search needs))
+    (tie.spec (λ state₀ file₀ tally₀ place₀ state file tally place. (place ≤ length file) × (length file ≡ length file₀)) (λ state₀ file₀ tally₀ place₀ state file tally place. length file - place) (search needs) (search needs) (search needs) (search needs) (search needs) (search needs) (search needs) (search needs) (search needs))

@@ -10,4 +10,4 @@ pub damaged-at-spec : {M : Type 1} → statement M
 damaged-at-spec =
     tie.close
     (tie.spec (search needs) (λ c. sym (length-take-le _ _ (omega arith))) (search needs) (search needs)
-    (search needs) (search needs) (search needs))
+    (search needs) (search needs) (search needs) (search needs))

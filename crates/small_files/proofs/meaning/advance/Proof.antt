@@ -7,6 +7,4 @@ use Rattle.small_files.proofs.meaning.advance.Tie as tie
 pub advance-spec : {M : Type 1} → statement M
 advance-spec =
     tie.close
-    (tie.spec (λ assignment₀ v n i₀ assignment i. i ≤ v) (λ assignment₀ v n i₀ assignment i. i) (search needs)
-    (search needs) (search needs) (search needs) (search needs) (search needs) (search needs) (search needs)
-    (search needs) (search needs) (search needs) (search needs))
+    (tie.spec (λ assignment₀ sets v i₀ assignment i. i ≤ v) (λ assignment₀ sets v i₀ assignment i. i) (search needs) (search needs) (search needs) (search needs) (search needs) (search needs) (search needs) (search needs) (search needs) (search needs) (search needs) (search needs) (search needs) (search needs) (search needs) (search needs))

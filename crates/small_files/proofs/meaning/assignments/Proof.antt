@@ -7,6 +7,4 @@ use Rattle.small_files.proofs.meaning.assignments.Tie as tie
 pub assignments-spec : {M : Type 1} → statement M
 assignments-spec =
     tie.close
-    (tie.spec (λ v n assignment₀ count₀ assignment count. count ≤ 4097)
-    (λ v n assignment₀ count₀ assignment count. 4097 - count) (search needs) (search needs) (search needs)
-    (search needs) (search needs) (search needs) (search needs) (search needs))
+    (tie.spec (λ sets v assignment₀ count₀ assignment count. count ≤ 4097) (λ sets v assignment₀ count₀ assignment count. 4097 - count) (search needs) (search needs) (search needs) (search needs) (search needs) (search needs) (search needs) (search needs))

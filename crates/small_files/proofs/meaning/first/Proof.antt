@@ -7,6 +7,4 @@ use Rattle.small_files.proofs.meaning.first.Tie as tie
 pub first-spec : {M : Type 1} → statement M
 first-spec =
     tie.close
-    (tie.spec (λ file v n assignment₀ left₀ assignment left. left ≤ 4096)
-    (λ file v n assignment₀ left₀ assignment left. left) (search needs) (search needs) (search needs) (search needs)
-    (search needs) (search needs) (search needs) (search needs) (search needs) (search needs))
+    (tie.spec (λ file sets v n assignment₀ left₀ assignment left. left ≤ 4096) (λ file sets v n assignment₀ left₀ assignment left. left) (search needs) (search needs) (search needs) (search needs) (search needs) (search needs) (search needs) (search needs) (search needs) (search needs))

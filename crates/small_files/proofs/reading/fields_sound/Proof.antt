@@ -8,6 +8,4 @@ use Rattle.small_files.proofs.reading.fields_sound.Tie as tie
 pub fields-sound-spec : {M : Type 1} → statement M
 fields-sound-spec =
     tie.close
-    (tie.spec (λ file v n at₀ at. 5 ≤ at) (λ file v n at₀ at. length file - at) (search needs) (search needs)
-    (search needs) (search needs) (search needs) (search needs) (search needs) (search needs) (search needs)
-    (search needs))
+    (tie.spec (λ file v n at₀ at. 5 ≤ at) (λ file v n at₀ at. length file - at) (search needs) (search needs) (search needs) (search needs) (search needs) (search needs) (search needs) (search needs) (search needs) (search needs) (search needs))

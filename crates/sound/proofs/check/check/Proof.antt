@@ -2,7 +2,7 @@
 use mathlib.Core.Path.{sym, _∙_}
 use Prim.Native.Nat.{_≤_}
 use native.Mathlib.Omega.{arith}
-use lib.ListN.{length}
+use lib.ListN.{length, getD}
 use Rattle.sound.proofs.CheckLaws.{header-refuses, header-passes, header-long}
 use borrow.Author.Needs.{needs}
 use Rattle.sound.proofs.check.check.Statement.{statement}
@@ -15,7 +15,7 @@ returns : tie.Need-returns
 returns c = sym (header-refuses (c .before .before .before .args .input .now) (c .before .header-fault .ensures) (c .if1 .taken))
 
 -- a header with no fault is there whole
-long : (c : tie.Else1) → 5 ≤ length (c .before .before .before .args .input .now)
+long : (c : tie.Else1) → let input = c .before .before .before .args .input .now in (5 ≤ length input) × (getD input 3 0 ≤ 64)
 long c = header-long (c .before .before .before .args .input .now) (c .before .header-fault .ensures) (c .if1 .left)
 
 shared-slice-read-v : tie.Need-shared-slice-read-v

@@ -3,7 +3,8 @@ use mathlib.Core.Path.{sym, ap, _∙_}
 use Rattle.rules.specs.declared.field.Tag.{Tag}
 use Rattle.rules.specs.Reading.{lengthFits, ruleOf, ruleFault, atomsFault}
 use Rattle.lists.proofs.TestLaws.{true-test}
-use Rattle.rules.proofs.Reading.ContentLaws.{equality-length}
+use Rattle.rules.proofs.Reading.ContentLaws.{equality-length, starting-length}
+use native.Mathlib.Omega.{arith}
 use borrow.Author.Needs.{needs}
 use Rattle.sound.proofs.contents.content_fault.Statement.{statement}
 use Rattle.sound.proofs.contents.content_fault.Tie as tie
@@ -26,8 +27,17 @@ equality-fault-requires c κs =
 enum-told-3 : tie.Need-enum-told-3
 enum-told-3 c = search needs
 
+starting-fault-requires : tie.Need-starting-fault-requires
+starting-fault-requires c κs =
+    let start = c .before .before .before in
+    let len = start .args .len in
+    omega (arith, start .pre .1, starting-length len (true-test _ (sym (ap (λ (k : Tag). lengthFits k len) (c .enum-told3 .given .1)) ∙ start .pre .0)))
+
 enum-told-4 : tie.Need-enum-told-4
 enum-told-4 c = search needs
+
+enum-told-5 : tie.Need-enum-told-5
+enum-told-5 c = search needs
 
 returns : tie.Need-returns
 unfolding ruleOf ruleFault
@@ -38,12 +48,15 @@ unfolding ruleOf ruleFault
 returns-2 c = c .equality-fault .ensures ∙ sym (ap (λ (k : Tag). ruleFault (c .before .before .before .before .args .v) (c .before .before .before .before .args .n) (ruleOf k (c .before .before .before .before .args .len) (c .before .before .before .before .args .content .now))) (c .before .enum-told2 .given .1))
 
 returns-3 : tie.Need-returns-3
-unfolding ruleOf ruleFault atomsFault
-returns-3 c = sym (ap (λ (k : Tag). ruleFault (c .before .before .before .args .v) (c .before .before .before .args .n) (ruleOf k (c .before .before .before .args .len) (c .before .before .before .args .content .now))) (c .enum-told3 .given .1))
+returns-3 c = c .starting-fault .ensures ∙ sym (ap (λ (k : Tag). ruleFault (c .before .before .before .before .args .v) (c .before .before .before .before .args .n) (ruleOf k (c .before .before .before .before .args .len) (c .before .before .before .before .args .content .now))) (c .before .enum-told3 .given .1))
 
 returns-4 : tie.Need-returns-4
 unfolding ruleOf ruleFault atomsFault
 returns-4 c = sym (ap (λ (k : Tag). ruleFault (c .before .before .before .args .v) (c .before .before .before .args .n) (ruleOf k (c .before .before .before .args .len) (c .before .before .before .args .content .now))) (c .enum-told4 .given .1))
+
+returns-5 : tie.Need-returns-5
+unfolding ruleOf ruleFault atomsFault
+returns-5 c = sym (ap (λ (k : Tag). ruleFault (c .before .before .before .args .v) (c .before .before .before .args .n) (ruleOf k (c .before .before .before .args .len) (c .before .before .before .args .content .now))) (c .enum-told5 .given .1))
 
 pub content-fault-spec : {M : Type 1} → statement M
 content-fault-spec =
@@ -54,8 +67,11 @@ content-fault-spec =
     enum-told-2
     equality-fault-requires
     enum-told-3
+    starting-fault-requires
     enum-told-4
+    enum-told-5
     returns
     returns-2
     returns-3
-    returns-4)
+    returns-4
+    returns-5)

@@ -22,6 +22,9 @@ enum-told-3 c = search needs
 enum-told-4 : tie.Need-enum-told-4
 enum-told-4 c = search needs
 
+enum-told-5 : tie.Need-enum-told-5
+enum-told-5 c = search needs
+
 returns : tie.Need-returns
 unfolding lengthFits
 returns c = sym (ap (λ (k : Tag). lengthFits k (c .before .before .args .len)) (c .enum-told .given .1))
@@ -46,6 +49,10 @@ returns-5 : tie.Need-returns-5
 unfolding lengthFits
 returns-5 c = sym (ap (λ (k : Tag). lengthFits k (c .before .before .args .len)) (c .enum-told4 .given .1))
 
+returns-6 : tie.Need-returns-6
+unfolding lengthFits
+returns-6 c = sym (ap (λ (k : Tag). lengthFits k (c .before .before .args .len)) (c .enum-told5 .given .1))
+
 pub length-fits-spec : {M : Type 1} → statement M
 length-fits-spec =
     tie.close
@@ -54,8 +61,10 @@ length-fits-spec =
     enum-told-2
     enum-told-3
     enum-told-4
+    enum-told-5
     returns
     returns-2
     returns-3
     returns-4
-    returns-5)
+    returns-5
+    returns-6)

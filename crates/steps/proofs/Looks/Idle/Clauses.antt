@@ -52,7 +52,7 @@ module _ (atoms : List Atom) where
       (found .0, found .1, (fit .0, fit .1, live-of-shared atoms p (roomAt box p) (smallest (roomAt box p)) some shared), found .2)
 
   -- a look at it changes nothing: where one position alone is live, that one shows it settled
-  settled-look : (place : ℕ) (box : List ℕ) → Rooms box → ClauseFits (length box) atoms → T (settledClause box atoms) → lookClause place atoms box ≡ alive box
+  pub settled-look : (place : ℕ) (box : List ℕ) → Rooms box → ClauseFits (length box) atoms → T (settledClause box atoms) → lookClause place atoms box ≡ alive box
   unfolding cut withRoom roomAt
   settled-look place box rooms fits t = go (settling-live box rooms fits t) (clause-look place atoms box)
     where

@@ -18,7 +18,8 @@ use Rattle.steps.specs.Shrinking.{alive, round}
 use Rattle.steps.specs.Reply.{Reply}
 use Rattle.steps.specs.Search.{chosen, ifNone, never, explored}
 use Rattle.steps.specs.OldStep.{lowestWide, exploreWide, exploredWide}
-use Rattle.steps.specs.Table.{startOf, needed}
+use Rattle.steps.specs.Start.{startOf}
+use Rattle.steps.specs.Table.{needed}
 use Rattle.steps.proofs.Boxes.BoxLaws.{box-inside-refl, box-inside-antisymmetric, rooms-at}
 use Rattle.steps.proofs.Boxes.BoxSizes.{open-inside}
 use Rattle.steps.proofs.Boxes.BoxSizes.{first-half-rooms, other-half-rooms, first-half-inside, other-half-inside, first-half-falls, other-half-falls}

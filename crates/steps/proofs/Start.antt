@@ -1,0 +1,3 @@
+pub mod StartLaws
+pub mod StartLooks
+pub mod StartExamples
