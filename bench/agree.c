@@ -30,6 +30,8 @@ static int one_in(uint32_t of) { return random_chance(&chance, 1, of); }
 /* The starting set of each position of the current file, which is not refused; answers how many positions it
    has. */
 static uint32_t find_starts(uint32_t *sets);
+/* Whether the values meet each "at most k" of the current file, which is not refused. */
+static int meets_at_most(const uint8_t *values);
 
 /* ---- calling both ---- */
 
@@ -77,7 +79,9 @@ static void make_input_pages(void)
     input_end = pages + size;
 }
 
-static uint64_t calls, calls_by_number[32];
+enum { NUMBERS = 40 }; /* numbers of replies are below */
+
+static uint64_t calls, calls_by_number[NUMBERS];
 static uint64_t most_splits;
 static uint64_t sum = 0xcbf29ce484222325; /* over all that was passed in, to tell two runs apart */
 
@@ -258,12 +262,14 @@ static struct outcome compare(size_t answer_len, uint64_t allowance)
         stop("both have rounds that cannot be", &planned, &measured, area, answer_len, allowance);
     if (planned.number >= 10 && planned.number != 11 && planned.number != 12 && planned.most_rounds != 0)
         stop("both have a most for a file that is refused", &planned, &measured, area, answer_len, allowance);
-    /* Demands 2 and 3, by the starting sets. */
+    /* Demands 2 and 3, by the starting sets and by each "at most k". */
     if (planned.number < 10 && !splits_within_bound(planned.splits))
         stop("both have more splits than the starting sets allow", &planned, &measured, area, answer_len, allowance);
     if (planned.number == 0 && !plan_within_starts(planned.area + GUARD))
         stop("both have a plan outside the starting sets", &planned, &measured, area, answer_len, allowance);
-    calls_by_number[planned.number % 32]++;
+    if (planned.number == 0 && !meets_at_most(planned.area + GUARD))
+        stop("both have a plan with more than k in a set", &planned, &measured, area, answer_len, allowance);
+    calls_by_number[planned.number % NUMBERS]++;
     if (planned.splits > most_splits)
         most_splits = planned.splits;
     if (planned.number < 10) {
@@ -278,14 +284,14 @@ static struct outcome compare(size_t answer_len, uint64_t allowance)
 /* ---- examples with the replies that are right: 01's, d with the place of 02 (R-3) and l with its counts
    (R-2), all with the rounds of 02 (R-10); files that tell readings of R-3, of R-10 and of R-2 apart,
    which stand in crates/bench_examples/src/ too: unmet.rt and step4.rt there work out R-3 and R-2 by hand;
-   and files with starting sets (R-6) ---- */
+   files with starting sets (R-6); and files that tell readings of "at most k" (R-12) apart ---- */
 
-enum { CLAUSE = -1, EQUALITY = -2, START = -3, END = -4 };
+enum { CLAUSE = -1, EQUALITY = -2, START = -3, AT_MOST = -4, END = -5 };
 
 static const struct example {
     const char *name;
     int rules[40]; /* v, n; then a clause with position, set, ..; an equality with M, position, ..; a starting
-                      set with its position and the set */
+                      set with its position and the set; an "at most k" with k, the set, position, .. */
     uint64_t allowance, number, place, splits, dead_ends, rounds;
     const char *plan; /* a digit for each position */
 } examples[] = {
@@ -353,6 +359,54 @@ static const struct example {
       0, 2, 0, 0, 0, 1, "" },
     { "settled by the start", { 2, 3, CLAUSE, 1, 6, 2, 1, START, 1, 6, END }, 0, 0, 0, 0, 0, 1, "21" },
     { "not live by the start", { 3, 3, CLAUSE, 1, 1, 2, 1, 3, 1, START, 1, 6, END }, 1000000, 0, 0, 1, 0, 1, "211" },
+    /* At most one takes 1 and at most one takes 2: three positions of two values cannot. */
+    { "at most one, three of two values", { 3, 2, AT_MOST, 1, 1, 1, 2, 3, AT_MOST, 1, 2, 1, 2, 3, END },
+      1000000, 1, 0, 1, 2, 1, "" },
+    /* Rooms that meet the set do not count, so the first box is neither dead nor cut. */
+    { "two rooms meet", { 2, 2, AT_MOST, 1, 1, 1, 2, END }, 0, 2, 0, 0, 0, 1, "" },
+    { "two rooms meet, split", { 2, 2, AT_MOST, 1, 1, 1, 2, END }, 1000000, 0, 0, 1, 0, 1, "12" },
+    /* A room of two values counts where it lies inside the set. */
+    { "a wide room inside", { 2, 3, START, 1, 3, AT_MOST, 1, 3, 1, 2, END }, 0, 0, 0, 0, 0, 2, "13" },
+    { "two wide rooms inside", { 2, 3, START, 1, 3, START, 2, 3, AT_MOST, 1, 3, 1, 2, END },
+      0, 1, 21, 0, 1, 1, "" },
+    /* All others are cut in one look: one at a time takes a round more, and finds another field dead. */
+    { "all others cut", { 3, 2, START, 1, 1, AT_MOST, 1, 1, 1, 2, 3, END }, 0, 0, 0, 0, 0, 2, "122" },
+    { "all others cut, dead behind", { 3, 2, START, 1, 1, AT_MOST, 1, 1, 1, 2, 3, CLAUSE, 3, 1, END },
+      0, 1, 24, 0, 1, 1, "" },
+    /* All are counted before any is cut: the room inside is the last one named. */
+    { "those named before are cut", { 3, 2, START, 3, 1, AT_MOST, 1, 1, 1, 2, 3, END }, 0, 0, 0, 0, 0, 2, "221" },
+    { "named against their order", { 3, 2, START, 3, 1, AT_MOST, 1, 1, 3, 2, 1, END }, 0, 0, 0, 0, 0, 2, "221" },
+    /* Settled where just k rooms meet the set, or fewer. */
+    { "k rooms meet", { 2, 2, START, 1, 2, AT_MOST, 1, 1, 1, 2, END }, 0, 0, 0, 0, 0, 1, "21" },
+    { "settled, so not live", { 3, 2, AT_MOST, 1, 1, 1, CLAUSE, 2, 1, 3, 1, END }, 1000000, 0, 0, 1, 0, 1, "111" },
+    { "settled behind, so not live", { 3, 2, CLAUSE, 2, 1, 3, 1, AT_MOST, 1, 1, 1, END },
+      1000000, 0, 0, 1, 0, 1, "111" },
+    /* Not live where the room does not meet the set. */
+    { "one does not meet", { 3, 3, START, 1, 6, AT_MOST, 1, 1, 1, 2, 3, END }, 1000000, 0, 0, 1, 0, 1, "212" },
+    /* Position 1 is live and has one value only: step 4 splits the next ones. */
+    { "a live position of one value", { 4, 3, START, 1, 4, AT_MOST, 2, 4, 1, 2, 3, 4, END },
+      1000000, 0, 0, 2, 0, 1, "3111" },
+    { "a live position of one value, 1 split", { 4, 3, START, 1, 4, AT_MOST, 2, 4, 1, 2, 3, 4, END },
+      1, 2, 0, 1, 0, 1, "" },
+    /* Position 1 lies inside the set, is live and has two values: it is split first. */
+    { "a wide room inside is split", { 3, 3, START, 1, 3, START, 2, 5, START, 3, 5, AT_MOST, 2, 3, 1, 2, 3, END },
+      1000000, 0, 0, 2, 0, 1, "113" },
+    { "a wide room inside is split, 1 split",
+      { 3, 3, START, 1, 3, START, 2, 5, START, 3, 5, AT_MOST, 2, 3, 1, 2, 3, END }, 1, 2, 0, 1, 0, 1, "" },
+    /* One more rule at the end: what was NONE with this allowance is UNDECIDED. */
+    { "none with 1 split", { 5, 3, EQUALITY, 7, 2, 5, END }, 1, 1, 0, 1, 2, 1, "" },
+    { "one rule more", { 5, 3, EQUALITY, 7, 2, 5, AT_MOST, 1, 2, 1, 3, 4, 5, END }, 1, 2, 0, 1, 0, 1, "" },
+    /* Dead in a later round, by rooms that rules behind it cut. */
+    { "dead in round two, at most one", { 2, 2, AT_MOST, 1, 1, 1, 2, CLAUSE, 1, 1, CLAUSE, 2, 1, END },
+      0, 1, 5, 0, 1, 2, "" },
+    { "at most none", { 2, 2, AT_MOST, 0, 1, 1, 2, END }, 0, 0, 0, 0, 0, 2, "22" },
+    { "at most none, one inside", { 2, 2, START, 2, 1, AT_MOST, 0, 1, 1, 2, END }, 0, 1, 13, 0, 1, 1, "" },
+    { "at most none, a wide one inside", { 1, 3, START, 1, 3, AT_MOST, 0, 3, 1, END }, 0, 1, 13, 0, 1, 1, "" },
+    { "at most none of the empty set", { 2, 2, AT_MOST, 0, 0, 1, 2, END }, 0, 0, 0, 0, 0, 1, "11" },
+    { "at most none, and no positions", { 2, 2, AT_MOST, 0, 3, END }, 0, 0, 0, 0, 0, 1, "11" },
+    { "at most one of the full set", { 2, 2, AT_MOST, 1, 3, 1, 2, END }, 0, 1, 5, 0, 1, 1, "" },
+    { "at most two of the full set", { 2, 2, AT_MOST, 2, 3, 1, 2, END }, 0, 0, 0, 0, 0, 1, "11" },
+    { "at most 255", { 2, 2, AT_MOST, 255, 3, 1, 2, END }, 0, 0, 0, 0, 0, 1, "11" },
     { "largest", { 64, 32, END }, 1000000, 0, 0, 0, 0, 1,
       "1111111111111111111111111111111111111111111111111111111111111111" },
 };
@@ -369,7 +423,7 @@ static const struct refused {
     { "a second header", 10, { 1, 0, 2, 2, 2, 1, 0, 2, 2, 2 }, 15, 5 },
     { "a clause of four bytes", 12, { 1, 0, 2, 2, 2, 2, 0, 4, 1, 0, 0, 0 }, 17, 5 },
     { "value 3 of 2", 13, { 1, 0, 2, 2, 2, 2, 0, 5, 1, 0, 0, 0, 4 }, 20, 5 },
-    { "tag 5", 13, { 1, 0, 2, 2, 2, 5, 0, 5, 1, 0, 0, 0, 1 }, 16, 5 },
+    { "tag 6", 13, { 1, 0, 2, 2, 2, 6, 0, 5, 1, 0, 0, 0, 1 }, 16, 5 },
     { "tag 4 first", 13, { 4, 0, 5, 1, 0, 0, 0, 1, 1, 0, 2, 2, 2 }, 14, 0 },
     { "a start of four bytes", 12, { 1, 0, 2, 2, 2, 4, 0, 4, 1, 0, 0, 0 }, 17, 5 },
     { "a start of six bytes", 14, { 1, 0, 2, 2, 2, 4, 0, 6, 1, 0, 0, 0, 1, 0 }, 17, 5 },
@@ -382,6 +436,21 @@ static const struct refused {
     { "a second start, empty", 21, { 1, 0, 2, 2, 2, 4, 0, 5, 1, 0, 0, 0, 1, 4, 0, 5, 1, 0, 0, 0, 0 }, 26, 13 },
     { "a second start", 21, { 1, 0, 2, 2, 2, 4, 0, 5, 1, 0, 0, 0, 1, 4, 0, 5, 1, 0, 0, 0, 2 }, 27, 13 },
     { "a second start, equal", 21, { 1, 0, 2, 2, 2, 4, 0, 5, 1, 0, 0, 0, 1, 4, 0, 5, 1, 0, 0, 0, 1 }, 27, 13 },
+    { "tag 5 first", 13, { 5, 0, 5, 1, 0, 0, 0, 1, 1, 0, 2, 2, 2 }, 14, 0 },
+    { "at most k of four bytes", 12, { 1, 0, 2, 2, 2, 5, 0, 4, 1, 0, 0, 0 }, 17, 5 },
+    { "at most k of 70 bytes that are missing", 8, { 1, 0, 2, 2, 2, 5, 0, 70 }, 17, 5 },
+    { "at most k of 261 bytes that are missing", 8, { 1, 0, 2, 2, 2, 5, 1, 5 }, 17, 5 },
+    { "at most k of 69 bytes that are missing", 8, { 1, 0, 2, 2, 2, 5, 0, 69 }, 13, 5 },
+    { "at most k, its last position missing", 14, { 1, 0, 2, 2, 2, 5, 0, 7, 1, 0, 0, 0, 4, 3 }, 13, 5 },
+    { "at most k, value 3 of 2, position 3 of 2", 14, { 1, 0, 2, 2, 2, 5, 0, 6, 1, 0, 0, 0, 4, 3 }, 20, 5 },
+    { "at most k, value 3 of 2, one named twice", 15, { 1, 0, 2, 2, 2, 5, 0, 7, 1, 0, 0, 0, 4, 1, 1 }, 20, 5 },
+    { "at most k, position 0", 14, { 1, 0, 2, 2, 2, 5, 0, 6, 1, 0, 0, 0, 1, 0 }, 19, 5 },
+    { "at most k, position 3 of 2, then 1", 15, { 1, 0, 2, 2, 2, 5, 0, 7, 1, 0, 0, 0, 1, 3, 1 }, 19, 5 },
+    { "at most k, position 3 of 2 twice", 15, { 1, 0, 2, 2, 2, 5, 0, 7, 1, 0, 0, 0, 1, 3, 3 }, 19, 5 },
+    { "at most k, one named twice, then 3 of 2", 16, { 1, 0, 2, 2, 2, 5, 0, 8, 1, 0, 0, 0, 1, 1, 1, 3 }, 19, 5 },
+    { "at most k, one named twice", 15, { 1, 0, 2, 2, 2, 5, 0, 7, 1, 0, 0, 0, 1, 1, 1 }, 36, 5 },
+    { "at most k, one named twice, one between", 16, { 1, 0, 2, 2, 2, 5, 0, 8, 1, 0, 0, 0, 1, 2, 1, 2 }, 36, 5 },
+    { "at most 255 of the empty set, twice", 15, { 1, 0, 2, 2, 2, 5, 0, 7, 255, 0, 0, 0, 0, 2, 2 }, 36, 5 },
 };
 
 /* Writes the file. Answers its most rounds: the sum over positions of starting size less one, plus one. */
@@ -397,6 +466,10 @@ static uint64_t write_rules(const int *rules)
         } else if (*at == EQUALITY) {
             kind = EQUALITY;
             write_equality(&file, (uint32_t)*++at);
+        } else if (*at == AT_MOST) {
+            kind = AT_MOST;
+            write_at_most(&file, (uint32_t)at[1], (uint32_t)at[2]);
+            at += 2;
         } else if (*at == START) {
             write_start(&file, (uint32_t)at[1], (uint32_t)at[2]);
             most -= rules[1] - __builtin_popcount((uint32_t)at[2]);
@@ -542,6 +615,58 @@ static void any_equality(uint32_t v, uint32_t n, uint32_t most)
     write_equality(&file, one_in(4) ? values_to(n) : any_set(n));
     for (; positions > 0; positions--)
         write_named(&file, 1 + below(span));
+}
+
+/* a count for an "at most k" of so many positions: 0, small, near their number, above it, or 255 */
+static uint32_t any_most(uint32_t positions)
+{
+    switch (below(12)) {
+    case 0: return 0;
+    case 1: return positions;
+    case 2: return positions > 0 ? positions - 1 : 0;
+    case 3: return positions + 1 + below(255 - positions);
+    case 4: return one_in(2) ? 255 : below(256);
+    case 5:
+    case 6: return below(positions + 1);
+    case 7: return 2;
+    case 8: return 2 + below(3);
+    default: return 1;
+    }
+}
+
+/* Adds `count` of the positions 1 to v to the field, each once: in rising order or in any. */
+static void name_some(struct rule_file *to, uint32_t v, uint32_t count)
+{
+    uint8_t order[64];
+    int rising = one_in(2);
+
+    for (uint32_t p = 0; p < v; p++)
+        order[p] = (uint8_t)(1 + p);
+    if (rising) { /* each is taken with the chance that makes `count` come out */
+        for (uint32_t p = 0; p < v; p++)
+            if (random_chance(&chance, count, v - p)) {
+                write_named(to, order[p]);
+                count--;
+            }
+        return;
+    }
+    for (uint32_t p = 0; p < count; p++) {
+        uint32_t other = p + below(v - p);
+        uint8_t taken = order[other];
+
+        order[other] = order[p];
+        order[p] = taken;
+        write_named(to, taken);
+    }
+}
+
+/* "At most k" of none, few, most or all positions, with any count and any set. */
+static void any_at_most(struct rule_file *to, uint32_t v, uint32_t n)
+{
+    uint32_t count = one_in(3) ? v : one_in(16) ? 0 : one_in(2) ? below(v + 1) : v - below((v + 1) / 2);
+
+    write_at_most(to, any_most(count), any_set(n));
+    name_some(to, v, count);
 }
 
 /* Few positions and values, up to a dozen rules of all kinds. */
@@ -858,10 +983,67 @@ static void make_started(void)
         write_start(&file, next, sets[next - 1]);
 }
 
+/* "At most k" above all: buses whose sets lie apart or share values, with a count for each, and rules that
+   drive positions onto them: a position starts inside a bus or with values of one, one of two positions takes a
+   value of a bus, or an equality asks for values of one. */
+static void make_busy_buses(void)
+{
+    uint32_t v = 2 + below(6), n = 2 + below(6), buses = 1 + below(3), crowd = 2 + below(4), sets[3];
+    uint32_t all = values_to(n);
+
+    write_header(&file, v, n);
+    for (uint32_t b = 0; b < buses; b++) {
+        uint32_t count = one_in(2) ? v : 1 + below(v);
+
+        sets[b] = some_values(n, one_in(4) ? 1 : 2 + below((n + 1) / 2));
+        write_at_most(&file, one_in(4) ? any_most(count) : 1 + below(count), sets[b]);
+        name_some(&file, v, count);
+    }
+    for (uint32_t p = 1; p <= v; p++) {
+        uint32_t bus = sets[below(buses)];
+
+        if (!one_in(p == 1 ? 2 : crowd)) /* position 1 more often: step 4 comes to it first */
+            continue;
+        switch (below(6)) {
+        case 0: write_start(&file, p, bus & -bus); break;
+        case 1:
+        case 2: write_start(&file, p, bus); break;
+        default: write_start(&file, p, bus | some_values(n, 1 + below(2)));
+        }
+    }
+    for (uint32_t left = one_in(3) ? 0 : below(2 * v); left > 0; left--) {
+        uint32_t p = 1 + below(v), q = 1 + below(v), bus = sets[below(buses)];
+
+        switch (below(6)) {
+        case 0: /* one of two takes a value of a bus, or of two buses */
+        case 1:
+        case 2:
+            write_clause(&file);
+            write_atom(&file, p, bus);
+            write_atom(&file, q, sets[below(buses)]);
+            break;
+        case 3: /* if p does, q takes some value */
+            write_clause(&file);
+            write_atom(&file, p, all & ~bus);
+            write_atom(&file, q, any_set(n));
+            break;
+        case 4: /* p and q use these values between them */
+            write_equality(&file, one_in(2) ? bus : two_values(n));
+            write_named(&file, p);
+            write_named(&file, q);
+            if (one_in(2))
+                write_named(&file, 1 + below(v));
+            break;
+        default:
+            any_clause(v, n, 3);
+        }
+    }
+}
+
 /* The workloads of the table, in small. */
 static void make_workload(void)
 {
-    switch (below(8)) {
+    switch (below(9)) {
     case 0: make_sudoku(&file, 4, (int)below(9)); break;
     case 1: make_sudoku(&file, 6, 6 + (int)below(12)); break;
     case 2: make_deep(&file, 1 + (int)below(5), 0); break;
@@ -881,6 +1063,16 @@ static void make_workload(void)
         int pairs = 100 + (int)below(300);
 
         make_fitted(&file, pairs, (int)below(1000));
+        break;
+    }
+    case 6: {
+        static const int buses[] = { 1, 1, 2, 2, 3, 4 };
+        int k = (int)below(6), no = (int)below(1000);
+
+        if (k == 0)
+            make_buses_clauses(&file, buses[k], no);
+        else
+            make_buses(&file, buses[k], no);
         break;
     }
     default: {
@@ -935,6 +1127,13 @@ static void make_limits(void)
             uint32_t position = strict || !one_in(4) ? 1 + below(within_v) : edge(within_v);
 
             write_start(&file, position, strict || !one_in(4) ? any_start(within_n, 1) : edge_set(within_n));
+        } else if (one_in(4)) {
+            uint32_t positions = one_in(3) ? within_v : below(within_v + 1);
+
+            write_at_most(&file, any_most(positions), strict || !one_in(4) ? any_set(within_n) : edge_set(within_n));
+            name_some(&file, within_v, positions);
+            for (uint32_t faults = strict || one_in(2) ? 0 : 1 + below(2); faults > 0; faults--)
+                write_named(&file, edge(within_v)); /* 19, 36, or with 65 positions 17 */
         } else if (one_in(3)) {
             uint32_t positions = one_in(3) ? 62 + below(strict ? 3 : 4) : below(6);
 
@@ -963,7 +1162,7 @@ static void make_bytes(void)
     if (one_in(4))
         file.length = 0;
     for (uint32_t left = below(40); left > 0; left--)
-        write_byte(&file, one_in(8) ? below(256) : below(6));
+        write_byte(&file, one_in(8) ? below(256) : below(7));
 }
 
 /* A file of nearly, exactly or just over 32,768 bytes. */
@@ -1148,10 +1347,83 @@ static void add_starts(void)
     }
 }
 
+/* A field of tag 5 with a fault. Where n is 32 no value is above it, and the field has another fault or none. */
+static void write_faulty_at_most(uint32_t v, uint32_t n)
+{
+    static const uint32_t lengths[] = { 0, 1, 4, 70, 71, 133, 256, 261 };
+    uint32_t above = n < 32 ? value_alone(n + 1 + below(32 - n)) : 0, count = below(v + 1);
+    uint32_t out = one_in(2) ? v + 1 : one_in(2) ? 0 : 255;
+    uint32_t length, missing;
+
+    piece.length = 0;
+    switch (below(8)) {
+    case 0: /* a position twice: 36, whatever k and the set are */
+    case 1:
+    case 2:
+        write_at_most(&piece, any_most(count), any_set(n));
+        name_some(&piece, v, v < 64 ? v : 1 + below(63));
+        write_named(&piece, piece.bytes[8 + below((uint32_t)piece.length - 8)]);
+        break;
+    case 3: /* a position twice, and behind it one out of range: 19 */
+        write_at_most(&piece, any_most(count), any_set(n));
+        name_some(&piece, v, v < 60 ? v : 1 + below(60));
+        write_named(&piece, piece.bytes[8]);
+        write_named(&piece, out);
+        break;
+    case 4: /* a position out of range, once or twice: 19 */
+        write_at_most(&piece, any_most(count), any_set(n));
+        write_named(&piece, out);
+        if (one_in(2))
+            write_named(&piece, out);
+        name_some(&piece, v, v < 60 ? count : below(60));
+        break;
+    case 5: /* a value above n: 20, with one position twice or out of range as well */
+        write_at_most(&piece, any_most(count), above | any_set(n));
+        name_some(&piece, v, v < 60 ? v : 60);
+        if (one_in(2))
+            write_named(&piece, one_in(2) ? out : piece.bytes[8]);
+        break;
+    default: /* another length, 17, with or without the bytes; or a right one and bytes missing: 13, if none follow */
+        length = one_in(2) ? 5 + below(65) : lengths[below(sizeof lengths / sizeof *lengths)];
+        missing = one_in(3) ? 0 : 1 + below(length < 5 ? 5 : length);
+        write_byte(&piece, 5);
+        write_byte(&piece, length >> 8);
+        write_byte(&piece, length & 255);
+        for (uint32_t at = 0; at + missing < length; at++)
+            write_byte(&piece, at == 0 ? 1 : at < 4 ? 0 : at == 4 ? 1 : at - 4);
+    }
+}
+
+/* Adds one to three "at most k" to the file: behind the header, at the end or at any place among the fields; and
+   now and then one that is faulty. */
+static void add_at_most(void)
+{
+    uint32_t v, n, where = below(4);
+    size_t fields = find_fields();
+
+    if (fields == 0 || file.bytes[0] != 1 || starts[1] != 5 || file.length + 600 > LONGEST_FILE)
+        return;
+    v = file.bytes[3];
+    n = file.bytes[4];
+    if (v < 1 || v > 64 || n < 1 || n > 32)
+        return;
+    if (v > 8 && !one_in(4)) /* with many positions most searches become long ones */
+        return;
+    for (uint32_t left = 1 + below(3); left > 0; left--) {
+        piece.length = 0;
+        any_at_most(&piece, v, n);
+        insert(where == 0 ? 5 : where == 1 ? file.length : any_border(), piece.bytes, piece.length);
+    }
+    if (one_in(6)) {
+        write_faulty_at_most(v, n);
+        insert(one_in(3) ? file.length : any_border(), piece.bytes, piece.length);
+    }
+}
+
 /* Damages the file in one place. */
 static void damage(void)
 {
-    static const uint8_t telling[] = { 0, 1, 2, 3, 4, 5, 17, 32, 33, 64, 65, 68, 69, 128, 255 };
+    static const uint8_t telling[] = { 0, 1, 2, 3, 4, 5, 6, 17, 32, 33, 64, 65, 68, 69, 70, 128, 255 };
     size_t fields = find_fields(), field, at;
 
     if (file.length == 0)
@@ -1204,7 +1476,7 @@ static void damage(void)
                 file.bytes[field + 2] = (uint8_t)(file.bytes[field + 2] + by[below(5)]);
         }
         break;
-    case 10: /* the first byte of the content: a position, or the high byte of a set */
+    case 10: /* the first byte of the content: a position, a count, or the high byte of a set */
         if (field + 3 < file.length)
             file.bytes[field + 3] = telling[below(sizeof telling)];
         break;
@@ -1216,7 +1488,7 @@ static void damage(void)
             insert(any_border(), piece.bytes, size);
         }
         break;
-    default: /* a later byte of the content that is a position in an atom and in an equality */
+    default: /* a later byte of the content that is a position in an atom, an equality and an "at most k" */
         if (field + 8 < file.length)
             file.bytes[field + 8] = telling[below(sizeof telling)];
     }
@@ -1228,6 +1500,9 @@ static struct {
     uint64_t calls, empty_clause, several_atoms, named_twice, no_positions, empty_set, full_set, at_limit;
     uint64_t start, start_behind, start_everywhere, start_gap, start_above_1, start_single, start_full;
     uint64_t start_not_live, start_settled, start_plan, start_undecided, start_split;
+    uint64_t at_most, at_most_0, at_most_1, at_most_more, at_most_as_many, at_most_above, at_most_255;
+    uint64_t at_most_empty, at_most_full, at_most_no_positions, at_most_64, at_most_alone, at_most_several;
+    uint64_t at_most_clause, at_most_equality, at_most_start, at_most_by_number[3], at_most_split;
 } had;
 
 static uint32_t set_at(const uint8_t *at)
@@ -1246,6 +1521,24 @@ static uint32_t find_starts(uint32_t *sets)
         if (file.bytes[starts[k]] == 4)
             sets[file.bytes[starts[k] + 3] - 1] = set_at(file.bytes + starts[k] + 4);
     return v;
+}
+
+static int meets_at_most(const uint8_t *values)
+{
+    size_t fields = find_fields();
+
+    for (size_t k = 1; k < fields; k++) {
+        const uint8_t *at = file.bytes + starts[k], *end = file.bytes + starts[k + 1];
+        uint32_t taken = 0, set = set_at(at + 4);
+
+        if (at[0] != 5)
+            continue;
+        for (const uint8_t *named = at + 8; named < end; named++)
+            taken += (set & value_alone(values[*named - 1])) != 0;
+        if (taken > at[3])
+            return 0;
+    }
+    return 1;
 }
 
 /* Whether a clause is settled from the start by a starting set that is not {1..n}; and whether it has a
@@ -1304,6 +1597,58 @@ static void survey_starts(const struct outcome *outcome)
     }
 }
 
+/* what the file's "at most k" are, which other fields it has, and what came of it where there is one */
+static void survey_at_most(const struct outcome *outcome)
+{
+    uint32_t all = values_to(file.bytes[4]), given = 0;
+    size_t fields = find_fields();
+    int none = 0, one = 0, more = 0, as_many = 0, above = 0, largest = 0, empty = 0, full = 0, unnamed = 0, widest = 0;
+    int clause = 0, equality = 0, start = 0;
+
+    for (size_t k = 1; k < fields; k++) {
+        const uint8_t *at = file.bytes + starts[k], *end = file.bytes + starts[k + 1];
+
+        clause |= at[0] == 2;
+        equality |= at[0] == 3;
+        start |= at[0] == 4;
+        if (at[0] == 5) {
+            uint32_t most = at[3], set = set_at(at + 4), positions = (uint32_t)(end - at) - 8;
+
+            given++;
+            none |= most == 0;
+            one |= most == 1 && most < positions;
+            more |= most > 1 && most < positions;
+            as_many |= most > 0 && most == positions;
+            above |= most > positions;
+            largest |= most == 255;
+            empty |= set == 0;
+            full |= set == all;
+            unnamed |= positions == 0;
+            widest |= positions == 64;
+        }
+    }
+    if (given == 0)
+        return;
+    had.at_most++;
+    had.at_most_0 += (uint64_t)none;
+    had.at_most_1 += (uint64_t)one;
+    had.at_most_more += (uint64_t)more;
+    had.at_most_as_many += (uint64_t)as_many;
+    had.at_most_above += (uint64_t)above;
+    had.at_most_255 += (uint64_t)largest;
+    had.at_most_empty += (uint64_t)empty;
+    had.at_most_full += (uint64_t)full;
+    had.at_most_no_positions += (uint64_t)unnamed;
+    had.at_most_64 += (uint64_t)widest;
+    had.at_most_several += given > 1;
+    had.at_most_clause += (uint64_t)clause;
+    had.at_most_equality += (uint64_t)equality;
+    had.at_most_start += (uint64_t)start;
+    had.at_most_alone += !clause && !equality && !start;
+    had.at_most_by_number[outcome->number]++;
+    had.at_most_split += outcome->splits > 0;
+}
+
 static void survey(const struct outcome *outcome)
 {
     size_t fields = find_fields();
@@ -1315,7 +1660,7 @@ static void survey(const struct outcome *outcome)
         int is_clause = file.bytes[starts[k]] == 2;
         uint64_t named = 0;
 
-        if (file.bytes[starts[k]] == 4)
+        if (file.bytes[starts[k]] > 3)
             continue;
         if (is_clause && at == end)
             empty_clause = 1;
@@ -1347,22 +1692,52 @@ static void survey(const struct outcome *outcome)
     had.full_set += (uint64_t)full;
     had.at_limit += v == 64 && file.bytes[4] == 32;
     survey_starts(outcome);
+    survey_at_most(outcome);
 }
 
 /* Refusals at a starting set's field, by number; and of those for an empty set, such where the position has a
    starting set already; of those for a second one, such where both are equal. */
 static struct {
-    uint64_t by_number[32], empty_second, equal_second;
+    uint64_t by_number[NUMBERS], empty_second, equal_second;
 } refused_start;
+
+/* Refusals at a field of tag 5, by number; and of those for a set or a position out of range, such where a
+   position in range is named twice. */
+static struct {
+    uint64_t by_number[NUMBERS], set_and_twice, position_and_twice;
+} refused_at_most;
+
+/* Whether the field of tag 5 at this place, which is there to its end, names a position from 1 to v twice. */
+static int names_twice(size_t place)
+{
+    size_t end = place + 3 + ((size_t)file.bytes[place + 1] << 8 | file.bytes[place + 2]);
+    uint64_t named = 0;
+
+    for (size_t at = place + 8; at < end; at++) {
+        uint32_t position = file.bytes[at];
+
+        if (position < 1 || position > file.bytes[3])
+            continue;
+        if (named >> (position - 1) & 1)
+            return 1;
+        named |= (uint64_t)1 << (position - 1);
+    }
+    return 0;
+}
 
 static void survey_refusal(const struct outcome *outcome)
 {
     uint64_t number = outcome->number, place = outcome->place;
     size_t fields = find_fields();
 
+    if (number >= 13 && place != 0 && file.bytes[place] == 5) {
+        refused_at_most.by_number[number % NUMBERS]++;
+        refused_at_most.set_and_twice += number == 20 && names_twice(place);
+        refused_at_most.position_and_twice += number == 19 && names_twice(place);
+    }
     if (number < 13 || place == 0 || file.bytes[place] != 4)
         return;
-    refused_start.by_number[number % 32]++;
+    refused_start.by_number[number % NUMBERS]++;
     if (number != 26 && number != 27)
         return;
     for (size_t k = 1; k < fields && starts[k] < place; k++)
@@ -1437,7 +1812,7 @@ static void compare_file(uint64_t number)
 
 static void make_file(void)
 {
-    uint32_t kind = below(780);
+    uint32_t kind = below(860);
 
     if (kind < 2)
         make_long();
@@ -1465,10 +1840,14 @@ static void make_file(void)
         make_values_settled();
     else if (kind < 720)
         make_one_a_round();
-    else
+    else if (kind < 780)
         make_started();
+    else
+        make_busy_buses();
     if (one_in(3))
         add_starts();
+    if (one_in(4))
+        add_at_most();
     if (one_in(3))
         shuffle();
     if (one_in(4))
@@ -1481,15 +1860,23 @@ static void print_count(const char *what, uint64_t count)
     printf("    %-64s %llu\n", what, (unsigned long long)count);
 }
 
+/* the counts of refusals that are not 0, each with the meaning of its number */
+static void print_refusals(const char *const *meanings, const uint64_t *by_number)
+{
+    for (size_t k = 0; k < NUMBERS; k++)
+        if (by_number[k])
+            print_count(meanings[k] ? meanings[k] : "a number that 01 and 02 do not have", by_number[k]);
+}
+
 int main(int argc, char **argv)
 {
-    static const char *const meanings[32] = {
+    static const char *const meanings[NUMBERS] = {
         [0] = "0 PLAN", [1] = "1 NONE", [2] = "2 UNDECIDED", [10] = "10 input too long",
         [11] = "11 answer buffer too short", [12] = "12 allowance too large",
         [13] = "13 bytes missing", [14] = "14 no header first", [15] = "15 a second header",
         [16] = "16 unknown tag", [17] = "17 wrong length", [18] = "18 v or n out of range",
         [19] = "19 position out of range", [20] = "20 value above n", [26] = "26 starting set empty",
-        [27] = "27 second starting set of a position",
+        [27] = "27 second starting set of a position", [36] = "36 position named twice in an \"at most k\"",
     };
     uint64_t least = argc > 1 ? strtoull(argv[1], 0, 10) : 400000, files = 0;
 
@@ -1509,15 +1896,17 @@ int main(int argc, char **argv)
            (unsigned long long)calls, (unsigned long long)files, (unsigned long long)seed,
            (unsigned long long)sum);
     printf("  calls by reply:\n");
-    for (size_t k = 0; k < 32; k++)
+    for (size_t k = 0; k < NUMBERS; k++)
         if (meanings[k] || calls_by_number[k])
             print_count(meanings[k] ? meanings[k] : "a number that 01 and 02 do not have", calls_by_number[k]);
     printf("  of the refusals, at the field of a starting set:\n");
-    for (size_t k = 0; k < 32; k++)
-        if (refused_start.by_number[k])
-            print_count(meanings[k] ? meanings[k] : "a number that 01 and 02 do not have", refused_start.by_number[k]);
+    print_refusals(meanings, refused_start.by_number);
     print_count("26 where the position has a starting set already", refused_start.empty_second);
     print_count("27 where both sets are equal", refused_start.equal_second);
+    printf("  of the refusals, at the field of an \"at most k\":\n");
+    print_refusals(meanings, refused_at_most.by_number);
+    print_count("20 where a position is named twice too", refused_at_most.set_and_twice);
+    print_count("19 where a position is named twice too", refused_at_most.position_and_twice);
     printf("  of the calls that were not refused, with such a file:\n");
     print_count("all", had.calls);
     print_count("an empty clause", had.empty_clause);
@@ -1539,6 +1928,26 @@ int main(int argc, char **argv)
     print_count("  the reply is PLAN", had.start_plan);
     print_count("  the reply is UNDECIDED", had.start_undecided);
     print_count("  there were splits", had.start_split);
+    print_count("an \"at most k\"", had.at_most);
+    print_count("  among them one with k 0", had.at_most_0);
+    print_count("  one with k 1 and more positions", had.at_most_1);
+    print_count("  one with k of 2 or more and more positions than k", had.at_most_more);
+    print_count("  one with k positions", had.at_most_as_many);
+    print_count("  one with fewer positions than k", had.at_most_above);
+    print_count("  one with k 255", had.at_most_255);
+    print_count("  one with the empty set", had.at_most_empty);
+    print_count("  one with the full set", had.at_most_full);
+    print_count("  one that names no position", had.at_most_no_positions);
+    print_count("  one that names 64", had.at_most_64);
+    print_count("  two or more of them", had.at_most_several);
+    print_count("  a clause too", had.at_most_clause);
+    print_count("  an equality too", had.at_most_equality);
+    print_count("  a starting set too", had.at_most_start);
+    print_count("  no field of another kind", had.at_most_alone);
+    print_count("  the reply is PLAN", had.at_most_by_number[0]);
+    print_count("  the reply is NONE", had.at_most_by_number[1]);
+    print_count("  the reply is UNDECIDED", had.at_most_by_number[2]);
+    print_count("  there were splits", had.at_most_split);
     printf("  of the calls that were not refused, by the rounds of the first box:\n");
     print_count("one", rounds.one);
     print_count("two", rounds.two);
@@ -1556,12 +1965,20 @@ int main(int argc, char **argv)
     print_count("splits that passed over a lower position of two or more values", yardstick_counts.passed_over);
     print_count("  among them one that no rule names", yardstick_counts.passed_unnamed);
     print_count("  one that is live, where all rules that name it are settled", yardstick_counts.passed_live);
-    print_count("  one that a clause not settled names and that is not live there", yardstick_counts.passed_named);
+    print_count("  one that a rule not settled names and that is not live there", yardstick_counts.passed_named);
     print_count("  one live in an equality not settled, in settled clauses alone", yardstick_counts.passed_equality);
     print_count("boxes found dead after a room of them was cut", yardstick_counts.dead_after_cut);
     print_count("first boxes found dead: NONE with no split, and with a place", yardstick_counts.places);
     print_count("  among them in a later round than the first", yardstick_counts.places_later);
     print_count("  at an equality", yardstick_counts.places_equality);
+    print_count("  at an \"at most k\"", yardstick_counts.places_at_most);
+    print_count("boxes found dead at an \"at most k\"", yardstick_counts.at_most_dead);
+    print_count("  among them by a room of two or more values inside its set", yardstick_counts.at_most_dead_wide);
+    print_count("looks at an \"at most k\" that cut a room", yardstick_counts.at_most_cut);
+    print_count("  among them two or more rooms", yardstick_counts.at_most_cut_several);
+    print_count("  where a room of two or more values lay inside its set", yardstick_counts.at_most_cut_wide);
+    print_count("splits of a room that lies inside the set of one not settled", yardstick_counts.splits_inside);
+    print_count("splits where a lower position is live in one, with one value", yardstick_counts.live_alone);
     print_count("most rounds of shrinking in one box", yardstick_counts.most_rounds);
     print_count("most splits in one call", most_splits);
     print_count("searches of more than 1,500 splits with 1,000,000 allowed", long_run);

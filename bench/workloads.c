@@ -109,6 +109,14 @@ void write_start(struct rule_file *file, uint32_t position, uint32_t set)
     write_length(file);
 }
 
+void write_at_most(struct rule_file *file, uint32_t most, uint32_t set)
+{
+    write_head(file, 5);
+    write_byte(file, most);
+    write_set(file, set);
+    write_length(file);
+}
+
 /* ---- queens ---- */
 
 /* Whether a queen attacks the field that lies `down` rows below it (at least 1) and `aside` columns
@@ -272,46 +280,48 @@ void make_ladder_random(struct rule_file *file, int clauses, int seed)
 
 enum { FITTED = 3 };
 
-/* a set of three relays at random */
-static uint32_t any_fitted(struct random *random)
+/* `size` relays at random, from those above `above` and up to `to` */
+static uint32_t any_relays(struct random *random, uint32_t above, uint32_t to, int size)
 {
     uint32_t set = 0;
 
-    for (int left = FITTED; left > 0;) {
-        uint32_t relay = value_alone(1 + random_below(random, RACK_VALUES));
+    while (size > 0) {
+        uint32_t relay = value_alone(above + 1 + random_below(random, to - above));
 
         if (set & relay)
             continue;
         set |= relay;
-        left--;
+        size--;
     }
     return set;
 }
 
-/* one of the relays of a set of three, alone */
-static uint32_t one_fitted(struct random *random, uint32_t set)
+/* one of the relays of a set that has `size` of them, alone */
+static uint32_t one_relay(struct random *random, uint32_t set, uint32_t size)
 {
-    for (uint32_t left = random_below(random, FITTED); left > 0; left--)
+    for (uint32_t left = random_below(random, size); left > 0; left--)
         set &= set - 1;
     return set & -set;
 }
 
-/* "Not this relay of p and that relay of q", for channels and their relays at random. A rule names a relay
-   that is fitted, so that none is met from the start. */
-static void write_pairs(struct rule_file *file, struct random *random, const uint32_t *fitted, int pairs)
+/* "Not this relay of p and that relay of q", for channels at random and relays of theirs: of each channel from 1
+   to `channels` a set of `size` relays is given. */
+static void write_pairs(struct rule_file *file, struct random *random, uint32_t channels, const uint32_t *relays,
+                        uint32_t size, int pairs)
 {
     for (; pairs > 0; pairs--) {
-        uint32_t p = 1 + random_below(random, RACK_POSITIONS), q = 1 + random_below(random, RACK_POSITIONS - 1);
+        uint32_t p = 1 + random_below(random, channels), q = 1 + random_below(random, channels - 1);
 
         if (q >= p)
             q++;
         write_clause(file);
-        write_atom(file, p, ~one_fitted(random, fitted[p - 1]));
-        write_atom(file, q, ~one_fitted(random, fitted[q - 1]));
+        write_atom(file, p, ~one_relay(random, relays[p - 1], size));
+        write_atom(file, q, ~one_relay(random, relays[q - 1], size));
     }
 }
 
-/* The relays of all channels stand behind the header, and the pairs behind these. */
+/* The relays of all channels stand behind the header, and the pairs behind these. A pair names relays that are
+   fitted, so that none is met from the start. */
 static void make_fitted_by(struct rule_file *file, int clauses, int pairs, int seed)
 {
     struct random random = { (uint64_t)seed };
@@ -319,7 +329,7 @@ static void make_fitted_by(struct rule_file *file, int clauses, int pairs, int s
 
     write_header(file, RACK_POSITIONS, RACK_VALUES);
     for (uint32_t p = 1; p <= RACK_POSITIONS; p++) {
-        fitted[p - 1] = any_fitted(&random);
+        fitted[p - 1] = any_relays(&random, 0, RACK_VALUES, FITTED);
         if (clauses) {
             write_clause(file);
             write_atom(file, p, fitted[p - 1]);
@@ -327,7 +337,7 @@ static void make_fitted_by(struct rule_file *file, int clauses, int pairs, int s
             write_start(file, p, fitted[p - 1]);
         }
     }
-    write_pairs(file, &random, fitted, pairs);
+    write_pairs(file, &random, RACK_POSITIONS, fitted, FITTED, pairs);
 }
 
 void make_fitted(struct rule_file *file, int pairs, int seed)
@@ -340,6 +350,64 @@ void make_fitted(struct rule_file *file, int pairs, int seed)
 void make_fitted_clauses(struct rule_file *file, int pairs, int seed)
 {
     make_fitted_by(file, 1, pairs, seed);
+}
+
+/* ---- at most one channel on a bus ---- */
+
+enum {
+    BUS_CHANNELS = 32,
+    BUS_RELAYS = 24,   /* relays 1 to 24 lie on buses, as many on each; the others on none */
+    ON_BUSSES = 2,     /* relays of a channel that lie on buses */
+    ON_NONE = 2,       /* relays of a channel that lie on none */
+    PAIRS_FOR_BUS = 23 /* pairs for each bus; of the seeds 1 to 40, 17 then have a plan with 8 buses, 39 with 4 */
+};
+
+/* "At most one of the channels takes a relay of the bus": a field of tag 5, or for each two channels a clause
+   that one of them takes a relay outside. */
+static void write_bus(struct rule_file *file, int clauses, uint32_t bus)
+{
+    if (!clauses) {
+        write_at_most(file, 1, bus);
+        for (uint32_t p = 1; p <= BUS_CHANNELS; p++)
+            write_named(file, p);
+        return;
+    }
+    for (uint32_t p = 1; p <= BUS_CHANNELS; p++)
+        for (uint32_t q = p + 1; q <= BUS_CHANNELS; q++) {
+            write_clause(file);
+            write_atom(file, p, ~bus);
+            write_atom(file, q, ~bus);
+        }
+}
+
+/* The relays of all channels stand behind the header as starting sets, then come the buses, and then the pairs.
+   A pair names relays that lie on no bus, so that the channels crowd onto the buses. */
+static void make_buses_by(struct rule_file *file, int clauses, int buses, int seed)
+{
+    struct random random = { (uint64_t)seed };
+    uint32_t on_none[BUS_CHANNELS], width = BUS_RELAYS / (uint32_t)buses;
+
+    write_header(file, BUS_CHANNELS, RACK_VALUES);
+    for (uint32_t p = 1; p <= BUS_CHANNELS; p++) {
+        on_none[p - 1] = any_relays(&random, BUS_RELAYS, RACK_VALUES, ON_NONE);
+        write_start(file, p, on_none[p - 1] | any_relays(&random, 0, BUS_RELAYS, ON_BUSSES));
+    }
+    for (uint32_t below = 0; below < BUS_RELAYS; below += width)
+        write_bus(file, clauses, values_to(below + width) & ~values_to(below));
+    write_pairs(file, &random, BUS_CHANNELS, on_none, ON_NONE, PAIRS_FOR_BUS * buses);
+}
+
+void make_buses(struct rule_file *file, int buses, int seed)
+{
+    make_buses_by(file, 0, buses, seed);
+}
+
+/* Both files have the same plans, and the same splits and dead ends: a round over the clauses of a bus leaves the
+   rooms that one look at its field leaves, they are settled in the same boxes, and until then no room lies inside
+   the bus, so that the same positions are live. With 8 buses this file would have 54,237 bytes. */
+void make_buses_clauses(struct rule_file *file, int buses, int seed)
+{
+    make_buses_by(file, 1, buses, seed);
 }
 
 /* ---- clauses at random ---- */
@@ -435,7 +503,7 @@ void make_deep(struct rule_file *file, int positions, int unused)
 /* ---- the table ---- */
 
 /* "At random, 64 x 2, 265, no. 1" has 64 positions of two values, 265 clauses and the seed 1; "3 of 32 fitted,
-   420, no. 1" has 420 pairs and the seed 1. */
+   420, no. 1" has 420 pairs and the seed 1; "4 buses, one of 32, no. 4" has the seed 4. */
 const struct workload workloads[] = {
     { "queens 8", make_queens, 8, QUEENS_PLAIN, LARGEST_ALLOWANCE, 1 },
     { "queens 9", make_queens, 9, QUEENS_PLAIN, LARGEST_ALLOWANCE, 0 },
@@ -478,6 +546,15 @@ const struct workload workloads[] = {
     { "3 of 32 by clauses, 420, no. 1", make_fitted_clauses, 420, 1, LARGEST_ALLOWANCE, 1 },
     { "3 of 32 fitted, 420, no. 2", make_fitted, 420, 2, LARGEST_ALLOWANCE, 0 },
     { "3 of 32 by clauses, 420, no. 2", make_fitted_clauses, 420, 2, LARGEST_ALLOWANCE, 0 },
+
+    { "8 buses, one of 32, no. 8", make_buses, 8, 8, LARGEST_ALLOWANCE, 1 },
+    { "8 buses by clauses, no. 8", make_buses_clauses, 8, 8, LARGEST_ALLOWANCE, 1 },
+    { "8 buses, one of 32, no. 1", make_buses, 8, 1, LARGEST_ALLOWANCE, 0 },
+    { "8 buses by clauses, no. 1", make_buses_clauses, 8, 1, LARGEST_ALLOWANCE, 0 },
+    { "4 buses, one of 32, no. 4", make_buses, 4, 4, LARGEST_ALLOWANCE, 1 },
+    { "4 buses by clauses, no. 4", make_buses_clauses, 4, 4, LARGEST_ALLOWANCE, 1 },
+    { "4 buses, one of 32, no. 10", make_buses, 4, 10, LARGEST_ALLOWANCE, 0 },
+    { "4 buses by clauses, no. 10", make_buses_clauses, 4, 10, LARGEST_ALLOWANCE, 0 },
 
     { "sudoku 4x4, empty", make_sudoku, 4, 0, LARGEST_ALLOWANCE, 1 },
     { "sudoku 4x4, 4 given", make_sudoku, 4, 4, LARGEST_ALLOWANCE, 1 },

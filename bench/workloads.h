@@ -49,6 +49,8 @@ void write_equality(struct rule_file *file, uint32_t set);
 void write_named(struct rule_file *file, uint32_t position);
 /* the starting set of a position */
 void write_start(struct rule_file *file, uint32_t position, uint32_t set);
+/* starts an "at most `most` take a value in the set" that names no position; write_named adds one */
+void write_at_most(struct rule_file *file, uint32_t most, uint32_t set);
 
 /* ---- the workloads ---- */
 
@@ -62,6 +64,10 @@ void make_half_wired(struct rule_file *file, int size, int kind);
    two channels from taking a certain relay each. The relays fitted are told by starting sets or by clauses. */
 void make_fitted(struct rule_file *file, int pairs, int seed);
 void make_fitted_clauses(struct rule_file *file, int pairs, int seed);
+/* A rack of 32 channels and 32 relays, of which 24 lie on `buses` buses (a divisor of 24), and each bus takes at
+   most one channel. This is told by a field for each bus or by clauses, of which `buses` times 496 are needed. */
+void make_buses(struct rule_file *file, int buses, int seed);
+void make_buses_clauses(struct rule_file *file, int buses, int seed);
 /* A sudoku of `size` times `size` cells (4, 6 or 8), with `givens` cells of a solution given. */
 void make_sudoku(struct rule_file *file, int size, int givens);
 /* A ladder rack where each position drives the next one up, with the fields in that order or against

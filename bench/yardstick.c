@@ -1,11 +1,12 @@
 /* The yardstick: see yardstick.h. The section names in the comments are those of document 01; step 4 is
-   the one of document 02 (R-2), and so are the place of a NONE (R-3), the starting sets (R-6) and the rounds
-   (R-10).
+   the one of document 02 (R-2), and so are the place of a NONE (R-3), the starting sets (R-6), the rounds
+   (R-10) and "at most k" (R-12).
 
    The rules are parsed once, into arrays: a clause into its positions, each with the union of that
-   position's sets; an equality into M and its positions, each once. A starting set is no rule: it becomes
-   the room that its position has in the first box, wherever its field stands. The search then never looks at
-   the file again. Apart from that it goes by the steps as they are written. */
+   position's sets; an equality into M and its positions, each once; "at most k" into k, its set and its
+   positions. A starting set is no rule: it becomes the room that its position has in the first box, wherever
+   its field stands. The search then never looks at the file again. Apart from that it goes by the steps as
+   they are written. */
 #include "yardstick.h"
 
 #include <assert.h>
@@ -17,10 +18,10 @@ enum {
     SHORTEST_ANSWER = 64,
     LARGEST_ALLOWANCE = 1000000,
     HEAD = 3,  /* bytes of a tag and a length */
-    ATOM = 5   /* bytes of an atom, and of a starting set's content */
+    ATOM = 5   /* bytes of an atom, of a starting set's content, and of a count and its set */
 };
 
-/* the replies of 01's table, and of 02 */
+/* the replies of 01's table, and of 02 */
 enum {
     PLAN = 0,
     NONE = 1,
@@ -37,7 +38,8 @@ enum {
     WRONG_POSITION = 19,
     WRONG_SET = 20,
     EMPTY_START = 26,
-    SECOND_START = 27
+    SECOND_START = 27,
+    NAMED_TWICE = 36
 };
 
 /* ---- the rules, parsed ---- */
@@ -48,9 +50,12 @@ struct part {
     uint32_t set;
 };
 
+enum kind { CLAUSE, EQUALITY, AT_MOST };
+
 struct rule {
-    int is_equality;
-    uint32_t set;   /* M of an equality */
+    enum kind kind;
+    uint32_t most;  /* k of "at most k" */
+    uint32_t set;   /* M of an equality, and the set of "at most k" */
     uint32_t first; /* its parts are parts[first] up to, not including, parts[end] */
     uint32_t end;
     uint64_t named; /* bit i: position i, counted from 0, has a part */
@@ -84,7 +89,8 @@ static int parse_clause(const uint8_t *content, size_t length)
 
     for (uint32_t i = 0; i < v; i++)
         part_of[i] = 0;
-    rule->is_equality = 0;
+    rule->kind = CLAUSE;
+    rule->most = 0;
     rule->set = 0;
     rule->first = part_count;
     rule->named = 0;
@@ -115,7 +121,8 @@ static int parse_equality(const uint8_t *content, size_t length)
 {
     struct rule *rule = &rules[rule_count++];
 
-    rule->is_equality = 1;
+    rule->kind = EQUALITY;
+    rule->most = 0;
     rule->set = four_bytes(content);
     rule->first = part_count;
     rule->named = 0;
@@ -136,6 +143,37 @@ static int parse_equality(const uint8_t *content, size_t length)
     }
     rule->end = part_count;
     return 0;
+}
+
+/* Parses the bytes of "at most k", a count, a set and positions, to a new rule. Answers 0, or the number of its
+   first fault: the set's comes first, then that of a position out of range, wherever it stands, and one that is
+   named twice last. */
+static int parse_at_most(const uint8_t *content, size_t length)
+{
+    struct rule *rule = &rules[rule_count++];
+    int twice = 0;
+
+    rule->kind = AT_MOST;
+    rule->most = content[0];
+    rule->set = four_bytes(content + 1);
+    rule->first = part_count;
+    rule->named = 0;
+    if (rule->set & ~full_set())
+        return WRONG_SET;
+    for (size_t at = ATOM; at < length; at++) {
+        uint32_t position = content[at];
+
+        if (position == 0 || position > v)
+            return WRONG_POSITION;
+        position--;
+        twice |= rule->named >> position & 1;
+        rule->named |= (uint64_t)1 << position;
+        parts[part_count].position = position;
+        parts[part_count].set = rule->set;
+        part_count++;
+    }
+    rule->end = part_count;
+    return twice ? NAMED_TWICE : 0;
 }
 
 /* Parses a header's bytes: v and n, and every position starts at {1..n}. Answers 0, or the number of its
@@ -179,7 +217,8 @@ static int length_is_right(int tag, size_t length)
     case 1: return length == 2;
     case 2: return length % ATOM == 0;
     case 3: return length >= 4 && length <= 4 + POSITIONS;
-    default: return length == ATOM;
+    case 4: return length == ATOM;
+    default: return length >= ATOM && length <= ATOM + POSITIONS;
     }
 }
 
@@ -205,20 +244,21 @@ static int parse(const uint8_t *input, size_t input_len, uint64_t *place)
             return NO_HEADER;
         if (at != 0 && tag == 1)
             return SECOND_HEADER;
-        if (tag < 1 || tag > 4)
+        if (tag < 1 || tag > 5)
             return UNKNOWN_TAG;
         length = (size_t)input[at + 1] << 8 | input[at + 2];
         if (!length_is_right(tag, length))
             return WRONG_LENGTH;
         if (left - HEAD < length)
             return BYTES_MISSING;
-        if (tag == 2 || tag == 3)
+        if (tag != 1 && tag != 4)
             places[rule_count] = (uint32_t)at;
         switch (tag) {
         case 1: fault = parse_header(content); break;
         case 2: fault = parse_clause(content, length); break;
         case 3: fault = parse_equality(content, length); break;
-        default: fault = parse_start(content);
+        case 4: fault = parse_start(content); break;
+        default: fault = parse_at_most(content, length);
         }
         if (fault)
             return fault;
@@ -318,6 +358,60 @@ static enum look look_at_equality(const struct rule *rule, struct box *box)
     return result;
 }
 
+/* Step 1 at "at most k": more than k rooms inside the set, wide ones among them, is dead; where just k are
+   inside, every other room that meets the set is cut down to its values outside. The rooms inside are counted
+   before any is cut, and a cut puts no further room inside. */
+static enum look look_at_most(const struct rule *rule, struct box *box)
+{
+    const struct part *from = parts + rule->first, *end = parts + rule->end;
+    uint32_t inside = 0, cut = 0;
+#ifdef YARDSTICK_COUNTS
+    int wide = 0; /* whether a room inside has two or more values */
+
+    for (const struct part *part = from; part < end; part++) {
+        uint32_t room = box->rooms[part->position];
+
+        wide |= !(room & ~rule->set) && room != smallest_alone(room);
+    }
+#endif
+
+    for (const struct part *part = from; part < end; part++)
+        inside += !(box->rooms[part->position] & ~rule->set);
+    if (inside > rule->most) {
+#ifdef YARDSTICK_COUNTS
+        yardstick_counts.at_most_dead++;
+        yardstick_counts.at_most_dead_wide += (uint64_t)wide;
+#endif
+        return DEAD;
+    }
+    if (inside < rule->most)
+        return UNCHANGED;
+    for (const struct part *part = from; part < end; part++) {
+        uint32_t *room = &box->rooms[part->position];
+
+        if ((*room & rule->set) && (*room & ~rule->set)) {
+            *room &= ~rule->set;
+            cut++;
+        }
+    }
+#ifdef YARDSTICK_COUNTS
+    yardstick_counts.at_most_cut += cut > 0;
+    yardstick_counts.at_most_cut_several += cut > 1;
+    yardstick_counts.at_most_cut_wide += cut > 0 && wide;
+#endif
+    return cut ? CUT : UNCHANGED;
+}
+
+/* Step 1 at any rule. */
+static enum look look_at(const struct rule *rule, struct box *box)
+{
+    switch (rule->kind) {
+    case CLAUSE: return look_at_clause(rule, box);
+    case EQUALITY: return look_at_equality(rule, box);
+    default: return look_at_most(rule, box);
+    }
+}
+
 /* Step 1: rounds over all fields in file order, each room cut at once, until a round changes nothing. A
    starting set changes nothing and is never dead (R-6), so the rules are all that a round goes through.
    Answers whether the box is alive; where it is not, first_dead is the rule first found dead. A round counts
@@ -339,7 +433,7 @@ static int shrink(struct box *box)
             most_in_call = rounds;
 #endif
         for (const struct rule *rule = rules; rule < rules + rule_count; rule++) {
-            enum look look = rule->is_equality ? look_at_equality(rule, box) : look_at_clause(rule, box);
+            enum look look = look_at(rule, box);
 
             if (look == DEAD) {
 #ifdef YARDSTICK_COUNTS
@@ -347,7 +441,8 @@ static int shrink(struct box *box)
                 if (split_count == 0) {
                     yardstick_counts.places++;
                     yardstick_counts.places_later += rounds > 1;
-                    yardstick_counts.places_equality += (uint64_t)rule->is_equality;
+                    yardstick_counts.places_equality += rule->kind == EQUALITY;
+                    yardstick_counts.places_at_most += rule->kind == AT_MOST;
                 }
 #endif
                 first_dead = rule;
@@ -388,13 +483,32 @@ static int equality_settled(const struct rule *rule, const struct box *box)
     return alone == rule->set;
 }
 
+/* Step 2 at "at most k": at most k rooms meet the set. */
+static int at_most_settled(const struct rule *rule, const struct box *box)
+{
+    uint32_t meeting = 0;
+
+    for (const struct part *part = parts + rule->first; part < parts + rule->end; part++)
+        meeting += (box->rooms[part->position] & rule->set) != 0;
+    return meeting <= rule->most;
+}
+
+/* Step 2 at any rule. */
+static int settled(const struct rule *rule, const struct box *box)
+{
+    switch (rule->kind) {
+    case CLAUSE: return clause_settled(rule, box);
+    case EQUALITY: return equality_settled(rule, box);
+    default: return at_most_settled(rule, box);
+    }
+}
+
 /* Step 2: the first rule that is not settled; the end of the rules where the box is settled. */
 static const struct rule *first_unsettled(const struct box *box)
 {
     const struct rule *rule = rules;
 
-    while (rule < rules + rule_count
-           && (rule->is_equality ? equality_settled(rule, box) : clause_settled(rule, box)))
+    while (rule < rules + rule_count && settled(rule, box))
         rule++;
     return rule;
 }
@@ -439,7 +553,30 @@ static uint64_t equality_live(const struct rule *rule, const struct box *box)
     return live;
 }
 
-/* Step 4: the lowest position with two or more values that is live in some clause not settled, or v.
+/* Step 4 at "at most k": the positions whose rooms meet the set, as bits, those inside it among them; none where
+   it is settled. */
+static uint64_t at_most_live(const struct rule *rule, const struct box *box)
+{
+    uint64_t live = 0;
+
+    for (const struct part *part = parts + rule->first; part < parts + rule->end; part++)
+        if (box->rooms[part->position] & rule->set)
+            live |= (uint64_t)1 << part->position;
+    return (uint32_t)__builtin_popcountll(live) <= rule->most ? 0 : live;
+}
+
+/* Step 4 at any rule. */
+static uint64_t live_in(const struct rule *rule, const struct box *box)
+{
+    switch (rule->kind) {
+    case CLAUSE: return clause_live(rule, box);
+    case EQUALITY: return equality_live(rule, box);
+    default: return at_most_live(rule, box);
+    }
+}
+
+/* Step 4: the lowest position with two or more values that is live in some clause, or some "at most k", that is
+   not settled; or v, where there is none.
    The rules before `rule` are settled. A rule that names no position lower than the one found so far
    is passed over, and the scan ends where no lower one is left. */
 static uint32_t lowest_to_split(const struct rule *rule, const struct box *box)
@@ -455,7 +592,7 @@ static uint32_t lowest_to_split(const struct rule *rule, const struct box *box)
 
         if (!(rule->named & wide))
             continue;
-        live = wide & (rule->is_equality ? equality_live(rule, box) : clause_live(rule, box));
+        live = wide & live_in(rule, box);
         if (live) {
             lowest = (uint32_t)__builtin_ctzll(live);
             wide &= ((uint64_t)1 << lowest) - 1;
@@ -474,7 +611,7 @@ static void count_passed_over(const struct box *box, uint32_t split)
         if (box->rooms[i] != smallest_alone(box->rooms[i]))
             passed |= (uint64_t)1 << i;
     for (const struct rule *rule = rules; rule < rules + rule_count; rule++) {
-        int open = !(rule->is_equality ? equality_settled(rule, box) : clause_settled(rule, box));
+        int open = !settled(rule, box);
 
         named |= rule->named;
         if (open)
@@ -492,6 +629,26 @@ static void count_passed_over(const struct box *box, uint32_t split)
     yardstick_counts.passed_live += (passed & live & ~named_in_open) != 0;
     yardstick_counts.passed_named += (passed & named_in_open & ~live_in_open) != 0;
     yardstick_counts.passed_equality += (passed & live_in_open) != 0;
+}
+#endif
+
+#ifdef YARDSTICK_COUNTS
+/* Counts a split, by what it meets at each "at most k" that is not settled. */
+static void count_at_most(const struct box *box, uint32_t split)
+{
+    int inside = 0;
+    uint64_t live = 0, single = 0;
+
+    for (uint32_t i = 0; i < split; i++)
+        if (box->rooms[i] == smallest_alone(box->rooms[i]))
+            single |= (uint64_t)1 << i;
+    for (const struct rule *rule = rules; rule < rules + rule_count; rule++)
+        if (rule->kind == AT_MOST && !settled(rule, box)) {
+            inside |= (rule->named >> split & 1) && !(box->rooms[split] & ~rule->set);
+            live |= at_most_live(rule, box);
+        }
+    yardstick_counts.splits_inside += (uint64_t)inside;
+    yardstick_counts.live_alone += (live & single) != 0;
 }
 #endif
 
@@ -525,6 +682,7 @@ static int search(struct box box)
     if (smallest_alone(before.rooms[split]) != smallest_alone(box.rooms[split]))
         yardstick_counts.splits_after_cut++;
     count_passed_over(&box, split);
+    count_at_most(&box, split);
 #endif
     first_half = box;
     first_half.rooms[split] = smallest_alone(box.rooms[split]);

@@ -1,5 +1,5 @@
-/* The yardstick: a planner in plain C, written from documents 01 and 02 (R-2, R-3, R-6, R-8 and R-10) alone, to
-   compare the proved planner with, in what it answers and in how long it takes. Nothing of it is proved. */
+/* The yardstick: a planner in plain C, written from documents 01 and 02 (R-2, R-3, R-6, R-8, R-10 and R-12) alone,
+   to compare the proved planner with, in what it answers and in how long it takes. Nothing of it is proved. */
 #ifndef YARDSTICK_H
 #define YARDSTICK_H
 
@@ -25,8 +25,17 @@ extern struct yardstick_counts {
     /* boxes that shrinking found dead only after it had cut a room of them */
     uint64_t dead_after_cut;
     /* first boxes that shrinking found dead, each a NONE with a place; of these, in a later round than the
-       first; and at an equality */
-    uint64_t places, places_later, places_equality;
+       first; at an equality; and at an "at most k" */
+    uint64_t places, places_later, places_equality, places_at_most;
+    /* boxes found dead at an "at most k", first or not; of these, such where a room inside its set had two or
+       more values */
+    uint64_t at_most_dead, at_most_dead_wide;
+    /* looks at an "at most k" that cut a room; of these, such that cut several; and such where a room inside its
+       set had two or more values */
+    uint64_t at_most_cut, at_most_cut_several, at_most_cut_wide;
+    /* splits at a position that lies inside the set of an "at most k" not settled; and splits where a lower
+       position was live in one, but had one value only */
+    uint64_t splits_inside, live_alone;
     /* the largest number of rounds that shrinking one box took */
     uint64_t most_rounds;
     /* calls where some later box took more rounds than the first; and where the last box took another
@@ -39,7 +48,7 @@ extern struct yardstick_counts {
     uint64_t passed_unnamed;
     /* ... is live, and all rules that name it are settled */
     uint64_t passed_live;
-    /* ... is named in a clause that is not settled, but is not live in it */
+    /* ... is named in a rule that is not settled, but is not live in it */
     uint64_t passed_named;
     /* ... is live in an equality that is not settled, but only in clauses of it that are */
     uint64_t passed_equality;

@@ -55,21 +55,23 @@ extern "C" {
  *   13   REFUSED    bytes are missing: a field's head (3 bytes) or its content is cut off
  *   14   REFUSED    the file does not start with a header: it is empty, or its first tag is not 1
  *   15   REFUSED    a second header
- *   16   REFUSED    a tag that is not 1, 2, 3 or 4
+ *   16   REFUSED    a tag that is not 1, 2, 3, 4 or 5
  *   17   REFUSED    a length that does not fit the tag: a header (tag 1) has 2 bytes of content, a
- *                   clause (2) a multiple of 5, an equality (3) 4 to 68, a starting set (4) 5
+ *                   clause (2) a multiple of 5, an equality (3) 4 to 68, a starting set (4) 5, an
+ *                   at-most rule (5) 5 to 69
  *   18   REFUSED    the header's number of channels is not 1 to 64, or that of relays not 1 to 32
  *   19   REFUSED    a position that is 0 or above the number of channels
  *   20   REFUSED    a set that has a value above the number of relays
  *   26   REFUSED    a starting set that is empty
  *   27   REFUSED    a second starting set for its position, equal to the first or not
+ *   36   REFUSED    a position that an at-most rule names twice
  *
  * No other number comes back. A refusal is every number of 10 or more: test for that, and not for
  * the last of this table, since the table may grow.
  *
- * 10, 11 and 12 are tested first, in this order. 13 to 20, 26 and 27 are faults of the file, and the
- * first one that is found is told, from the front of the file to its end; in one starting set 19,
- * 20, 26 and 27 in this order.
+ * 10, 11 and 12 are tested first, in this order. 13 to 20, 26, 27 and 36 are faults of the file, and
+ * the first one that is found is told, from the front of the file to its end; in one starting set 19,
+ * 20, 26 and 27 in this order, and in one at-most rule 20, 19 of every position, and 36.
  */
 enum oarloom_number {
     OARLOOM_PLAN = 0,

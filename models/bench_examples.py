@@ -1,10 +1,10 @@
 # Makes the stored output of `bench_examples`: 01's examples, files that tell readings of the place of a NONE (02, R-3),
-# of the rounds (02, R-10), of step 4 (02, R-2) and of starting sets (02, R-6) apart, and the ceilings, with the replies
-# of the model. 01's "bytes
-# from v on stay; all other replies write nothing" is the word `kept` at the end of each line. Behind the line of a call
-# stands what the program prints for the file, in which the rounds are not.
+# of the rounds (02, R-10), of step 4 (02, R-2), of starting sets (02, R-6) and of at-most rules (02, R-12) apart, and the
+# ceilings, with the replies of the model. 01's "bytes from v on stay; all other replies write nothing" is the word
+# `kept` at the end of each line. Behind the line of a call stands what the program prints for the file, in which the
+# rounds are not.
 import scope
-from writing import clause, equality, field, header, start
+from writing import at_most, clause, equality, field, header, start
 
 CASE_E = header(2, 2) + equality({1, 2}, 1, 2)
 CASE_H = header(3, 3) + equality({1, 2, 3}, 1, 2, 3)
@@ -21,6 +21,9 @@ START_64_32 = header(64, 32) + start(64, {32})
 START_BEHIND = header(2, 3) + clause((1, {1})) + start(1, {2, 3})
 GAPS = start(1, {1, 3, 5}) + start(2, {2, 4})
 ONE_START = header(2, 2) + start(1, {1})
+TWO_BUSES = header(3, 2) + at_most(1, {1}, 1, 2, 3) + at_most(1, {2}, 1, 2, 3)
+ONE_PAIR = header(5, 3) + equality({1, 2, 3}, 2, 5)
+AT_MOST_ROUNDS = header(3, 2) + at_most(1, {2}, 2, 3) + at_most(0, {1}, 1, 2)
 # A file of 32,768 bytes: v 1, n 32, and 6552 atoms whose five bytes are all 1.
 LONGEST = header(1, 32) + field(2, bytes([1] * 5 * 6552))
 
@@ -147,6 +150,48 @@ show('start-27-same-set', ONE_START + start(1, {1}))
 show('start-27-another-set', ONE_START + start(1, {2}))
 show('start-20-before-27', ONE_START + start(1, {3}))
 
+# At most k positions in a set (02, R-12). Two buses for three generators that may each have one, and no split allowed.
+show('at-most-two-buses', TWO_BUSES)
+show('at-most-two-buses-allowance-0', TWO_BUSES, 0)
+# Exactly k rooms inside the set: a wide room counts too, and one look counts first and then cuts all others that meet
+# the set, in whatever order they are named. With fewer inside nothing is cut.
+show('at-most-wide-room-inside', header(2, 3) + start(1, {1, 2}) + at_most(1, {1, 2}, 1, 2), 0)
+show('at-most-all-in-one-look', header(4, 3) + clause((4, {2})) + at_most(1, {2, 3}, 1, 2, 3, 4), 0)
+show('at-most-not-rising', header(4, 3) + clause((4, {2})) + at_most(1, {2, 3}, 2, 4, 1), 0)
+show('at-most-one-apart', header(3, 3) + clause((3, {3})) + start(1, {2}) + at_most(1, {1, 3}, 1, 2, 3), 0)
+show('at-most-not-k-yet', header(3, 2) + clause((3, {1})) + at_most(2, {1}, 1, 2, 3), 0)
+# More than k rooms inside: dead at the field, in the round in which it is looked at with them. A rule behind it may be
+# dead because of what it cut.
+show('at-most-dead', header(3, 2) + clause((1, {1})) + clause((3, {1})) + at_most(1, {1}, 1, 2, 3))
+show('at-most-dead-behind-it', header(3, 2) + clause((1, {1})) + at_most(1, {1}, 1, 2, 3) + clause((3, {1})))
+show('at-most-dead-in-round-two', header(3, 2) + at_most(1, {1}, 1, 3) + clause((1, {1})) + clause((3, {1})))
+show('at-most-dead-by-wide-rooms', header(2, 3) + start(1, {1, 2}) + start(2, {2, 3}) + at_most(1, {1, 2, 3}, 1, 2))
+# k 0, k as large as the number of positions, k 255, the empty set, no positions.
+show('at-most-0', header(2, 3) + at_most(0, {1}, 1, 2), 0)
+show('at-most-0-full-set', header(2, 2) + clause((1, {1})) + at_most(0, {1, 2}, 2))
+show('at-most-2-of-2', header(2, 3) + at_most(2, {1}, 1, 2), 0)
+show('at-most-255', header(2, 3) + at_most(255, {1, 2, 3}, 1, 2), 0)
+show('at-most-0-empty-set', header(2, 3) + at_most(0, set(), 1, 2), 0)
+show('at-most-0-no-positions', header(2, 3) + at_most(0, {1, 2, 3}), 0)
+# Step 4: while the field is unsettled a room that meets the set is live, one inside it too, but a room of one value is not
+# split; a room apart from the set is not live, and nor is any room of a settled field.
+show('at-most-one-value', header(4, 3) + start(1, {3}) + at_most(2, {3}, 1, 2, 3, 4))
+show('at-most-split-inside', header(3, 3) + start(1, {1, 2}) + start(2, {1, 3}) + start(3, {1, 3})
+     + at_most(2, {1, 2}, 1, 2, 3))
+show('at-most-not-live', header(3, 3) + start(1, {2, 3}) + at_most(1, {1}, 1, 2, 3))
+show('at-most-not-named', header(3, 2) + at_most(1, {1}, 3, 2))
+show('at-most-settled', header(2, 3) + start(2, {3}) + at_most(1, {1, 2}, 1, 2), 0)
+# The lowest live position stands in the at-most rule: one split is no longer enough.
+show('at-most-none', ONE_PAIR, 1)
+show('at-most-undecided', ONE_PAIR + at_most(1, {2}, 1, 3, 4, 5), 1)
+# All 64 positions.
+show('at-most-1-of-64', header(64, 2) + at_most(1, {1}, *range(1, 65)))
+show('at-most-63-of-64', header(64, 2) + at_most(63, {1}, *range(1, 65)))
+# The rounds: a round that cuts two rooms in one look is one, and so they are fewer than the most.
+show('at-most-rounds', AT_MOST_ROUNDS, 0)
+show_most('at-most-most', AT_MOST_ROUNDS)
+show_most('at-most-most-36', header(2, 2) + at_most(1, {1}, 1, 1))
+
 # What is refused in a file, and what is not.
 show('empty-input', b'')
 show('bytes-01-00', b'\x01\x00')
@@ -156,6 +201,14 @@ show('second-header', header(2, 2) + header(2, 2))
 show('clause-length-4', header(2, 2) + field(2, b'\x01\x00\x00\x00'))
 show('clause-set-4', header(2, 2) + clause((1, {3})))
 show('equality-set-4', header(2, 2) + equality({3}, 1))
+# What is refused in an at-most rule: 17, 13, 20, 19, 36 in this order. Tag 6 is not known.
+show('at-most-17', header(2, 2) + field(5, b'\x01\x00\x00\x00'))
+show('at-most-13', header(2, 2) + at_most(1, {3}, 1, 2)[:-1])
+show('at-most-20', header(2, 2) + at_most(1, {3}, 3))
+show('at-most-19', header(2, 2) + at_most(1, {1}, 3, 3))
+show('at-most-36', header(2, 2) + at_most(1, {1}, 1, 1))
+show('at-most-19-before-36', header(2, 2) + at_most(1, {1}, 1, 1, 3))
+show('tag-6', header(2, 2) + field(6, b'\x01\x00\x00\x00\x01'))
 
 # The ceilings, and the order of their refusals.
 show('input-32769', LONGEST + b'\x01')

@@ -3,7 +3,7 @@
 import pathlib
 
 import scope
-from writing import field, header, start
+from writing import at_most, field, header, start
 
 LIST = pathlib.Path(__file__).resolve().parent.parent / 'crates' / 'reading' / 'stdin'
 
@@ -14,25 +14,30 @@ def short_files():
     return {number: bytes(map(int, line.rpartition(':')[2].split())) for number, line in enumerate(lines, 1)}
 
 
-# The long files, by their numbers: an equality of 64 positions, clauses of atoms whose five bytes are all 1, and a
-# starting set for each of 64 positions (02, R-6).
+# The long files, by their numbers: an equality of 64 positions, clauses of atoms whose five bytes are all 1, a starting
+# set for each of 64 positions (02, R-6), and an at-most rule of 64 positions (02, R-12).
 def long_files():
     equality = bytes([1] * 67)
     clause = header(1, 32) + field(2, bytes([1] * 260))
     longest = header(1, 32) + field(2, bytes([1] * 5 * 6552))
     started = header(64, 1) + b''.join(start(position, {1}) for position in range(1, 65))
     return {
-        236: header(64, 32) + field(3, equality + bytes([64])),
-        237: header(64, 32) + field(3, equality + bytes([64, 1])),
-        238: header(64, 32) + field(3, equality + bytes([65])),
-        239: clause,
-        240: clause + bytes([1]),
-        241: longest,
-        242: longest[:-5] + bytes([2]) + longest[-4:],
-        243: started,
-        244: started + start(1, {1}),
-        245: started + start(64, {1}),
-        246: started + start(64, set()),
+        308: header(64, 32) + field(3, equality + bytes([64])),
+        309: header(64, 32) + field(3, equality + bytes([64, 1])),
+        310: header(64, 32) + field(3, equality + bytes([65])),
+        311: clause,
+        312: clause + bytes([1]),
+        313: longest,
+        314: longest[:-5] + bytes([2]) + longest[-4:],
+        315: started,
+        316: started + start(1, {1}),
+        317: started + start(64, {1}),
+        318: started + start(64, set()),
+        319: header(64, 2) + at_most(1, {1}, *range(1, 65)),
+        320: header(64, 2) + at_most(1, {1}, *range(1, 65), 1),
+        321: header(64, 2) + at_most(1, {1}, *range(1, 64), 1),
+        322: header(64, 2) + at_most(1, {1}, *range(1, 64), 63),
+        323: header(64, 2) + at_most(1, {1}, *range(1, 63), 1, 65),
     }
 
 

@@ -10,7 +10,8 @@ import os
 import re
 import sys
 from collections import Counter
-from itertools import zip_longest
+from itertools import product, zip_longest
+from math import prod
 
 import scope
 
@@ -70,12 +71,25 @@ def equality_words(equality):
             f'{set_words(equality.values)}{remarks(notes)}')
 
 
+# An at-most rule (R-12): k, its positions and its set, with a remark where any assignment meets it.
+def at_most_words(rule):
+    notes = []
+    if rule.k >= len(rule.positions):
+        notes.append(f'always met: no more than {rule.k} positions are named')
+    elif not rule.values:
+        notes.append('always met: {} is the empty set, and no value is in it')
+    return (f'at-most rule: at most {rule.k} of {position_words(rule.positions)} '
+            f'take a value of {set_words(rule.values)}{remarks(notes)}')
+
+
 # Any field. A starting set counts from the start on, wherever its field stands (R-6).
 def field_words(field):
     if isinstance(field, scope.Header):
         return f'header: positions 1 to {field.v}, values 1 to {field.n}'
     if isinstance(field, scope.Start):
         return f'starting set: position {field.position} takes a value of {set_words(field.values)} and no other'
+    if isinstance(field, scope.AtMost):
+        return at_most_words(field)
     return clause_words(field) if isinstance(field, scope.Clause) else equality_words(field)
 
 
@@ -131,6 +145,20 @@ def parse(printed):
     return scope.Reply(KINDS[kind], place, one, two, None, values)
 
 
+# ---- How much is redone
+
+# How many positions a part of a rule is looked at in.
+def positions_in(part):
+    return len(part.positions) if isinstance(part, scope.AtMost) else len(part)
+
+
+# How many splits are redone without --all, and how many assignments are gone through: 20,000, and fewer where there are
+# many positions to look at, as each of them looks at those of all parts.
+def most_redone(rules):
+    positions = sum(positions_in(part) for rule in rules for part in scope.parts_of(rule))
+    return min(20000, 10000000 // max(positions, 1))
+
+
 # ---- What the reply says, held against the file
 
 # The value that a position takes.
@@ -162,10 +190,22 @@ def start_verdict(start, values):
     return f'NOT met: {takes(start.position, values)}, not in {set_words(start.values)}'
 
 
+# Which positions of an at-most rule take a value in its set, and whether they are too many.
+def at_most_verdict(rule, values):
+    inside = [position for position in rule.positions if values[position - 1] in rule.values]
+    verb = 'take' if len(inside) != 1 else 'takes'
+    found = f'{position_words(inside)} {verb} a value of {set_words(rule.values)}'
+    if len(inside) <= rule.k:
+        return f'met: {found}, and {rule.k} may'
+    return f'NOT met: {found}, and no more than {rule.k} may'
+
+
 # Why a rule is met, or why it is not.
 def rule_verdict(rule, values):
     if isinstance(rule, scope.Clause):
         return clause_verdict(rule, values)
+    if isinstance(rule, scope.AtMost):
+        return at_most_verdict(rule, values)
     return equality_verdict(rule, values) if isinstance(rule, scope.Equality) else start_verdict(rule, values)
 
 
@@ -186,6 +226,22 @@ def check_plan(header, rules, values):
     return wrong
 
 
+# Goes through all assignments inside the starting sets in dictionary order, where they are not too many, up to the first
+# that meets every rule. This asks what rules mean and nothing of the search. Gives what is wrong.
+def check_all(header, rules, values):
+    sets = scope.starting_sets(header, rules)
+    choices = [sorted(sets[position]) for position in range(1, header.v + 1)]
+    many = prod(len(choice) for choice in choices)
+    if many > most_redone(rules):
+        return []
+    first = next((tried for tried in product(*choices) if all(scope.meets(rule, tried) for rule in rules)), ())
+    if first == values:
+        found = 'this is the first that meets every rule' if first else 'none meets every rule'
+        print(f'of all {many} assignments inside the starting sets {found}')
+        return []
+    return [f'of all {many} assignments the first that meets every rule is {" ".join(map(str, first)) or "none"}']
+
+
 # Tests what holds for the counts of any file: the splits are allowed; UNDECIDED has used them up; splits leave one
 # box more than there are splits, and all of these are dead where the reply is NONE, and else not all.
 def check_counts(number, splits, dead_ends):
@@ -199,8 +255,8 @@ def check_counts(number, splits, dead_ends):
     return wrong
 
 
-# Tests what holds for the place of any NONE (R-3): there is one exactly if there is no split, and a clause or an equality
-# stands there, since a starting set is never dead (R-6).
+# Tests what holds for the place of any NONE (R-3): there is one exactly if there is no split, and a clause, an equality or
+# an at-most rule stands there, since a starting set is never dead (R-6).
 def check_place(rules, splits, place):
     if splits == 0 and place == 0:
         return ['NONE with no split has a place, and the reply has none']
@@ -208,7 +264,7 @@ def check_place(rules, splits, place):
     if splits > 0 and place > 0:
         wrong.append(f'NONE with a split has no place, and the reply has {place}')
     if place > 0 and not any(rule.place == place for rule in rules if not isinstance(rule, scope.Start)):
-        wrong.append(f'no clause and no equality starts at byte {place}')
+        wrong.append(f'no clause, no equality and no at-most rule starts at byte {place}')
     return wrong
 
 
@@ -219,18 +275,13 @@ def check_reply(header, rules, reply):
     if not header:
         return ['the file is refused, and the reply is not']
     wrong = check_plan(header, rules, reply.values) if reply.number == scope.PLAN else []
+    if not wrong and reply.number != scope.UNDECIDED:
+        wrong += check_all(header, rules, reply.values)
     wrong += check_counts(reply.number, reply.splits, reply.dead_ends)
     return wrong + (check_place(rules, reply.splits, reply.place) if reply.number == scope.NONE else [])
 
 
 # ---- The search redone
-
-# How many splits are redone without --all: 20,000, and fewer where there are many atoms, as each split looks at the
-# atoms of all clauses.
-def splits_redone(rules):
-    atoms = sum(len(clause) for rule in rules for clause in scope.clauses_of(rule))
-    return min(20000, 10000000 // max(atoms, 1))
-
 
 # Says which plan is the first, by the search that was redone. Gives what is wrong.
 def check_first(values, redone):
@@ -269,7 +320,7 @@ def compare(printed, right):
 
 # Redoes the whole reply. Gives what is wrong, and whether the search was redone to its end.
 def redo(file, rules, printed, reply, whole):
-    allowed = scope.PROGRAM_SPLITS if whole else splits_redone(rules)
+    allowed = scope.PROGRAM_SPLITS if whole else most_redone(rules)
     redone = scope.reply(file, scope.LEAST_BUFFER, allowed)
     if redone.number == scope.UNDECIDED and allowed < scope.PROGRAM_SPLITS:
         print(f'the search needs more than {allowed} splits: the counts were NOT redone, nor was it searched for a '

@@ -1,6 +1,6 @@
-# A model of documents 01 and 02 (R-2, R-3, R-6, R-8 and R-10), written from their text alone: reading a rule file, what
-# rules mean, the search step for step, the reply, and what the program prints. A set is a Python set of the values in
-# it.
+# A model of documents 01 and 02 (R-2, R-3, R-6, R-8, R-10 and R-12), written from their text alone: reading a rule file,
+# what rules mean, the search step for step, the reply, and what the program prints. A set is a Python set of the values
+# in it.
 from collections import namedtuple
 
 # The ceilings.
@@ -24,6 +24,8 @@ Clause = namedtuple('Clause', 'place atoms')
 Equality = namedtuple('Equality', 'place values positions')
 # The starting set of a position (R-6).
 Start = namedtuple('Start', 'place position values')
+# At most k of the positions take a value in the set (R-12).
+AtMost = namedtuple('AtMost', 'place k values positions')
 # "The position's value is in this set."
 Atom = namedtuple('Atom', 'position values')
 
@@ -55,14 +57,14 @@ def set_at(content, at):
     return set_of(number)
 
 
-# The tag of a field: the first is 1, and a later one is 2, 3 or 4.
+# The tag of a field: the first is 1, and a later one is 2, 3, 4 or 5.
 def check_tag(tag, place):
     if place == 0 and tag != 1:
         raise Refused(14, place, f'the first tag is {tag}, and not 1')
     if place > 0 and tag == 1:
         raise Refused(15, place, 'a second header: tag 1 comes first and once')
-    if tag not in (1, 2, 3, 4):
-        raise Refused(16, place, f'tag {tag} is none of 1, 2, 3, 4')
+    if tag not in (1, 2, 3, 4, 5):
+        raise Refused(16, place, f'tag {tag} is none of 1, 2, 3, 4, 5')
 
 
 # The length that a tag asks for.
@@ -75,6 +77,8 @@ def check_length(tag, length, place):
         raise Refused(17, place, f'an equality of length {length}, which has to be 4 to 68')
     if tag == 4 and length != 5:
         raise Refused(17, place, f'a starting set of length {length}, which has to be 5')
+    if tag == 5 and not 5 <= length <= 69:
+        raise Refused(17, place, f'an at-most rule of length {length}, which has to be 5 to 69')
 
 
 # One field: its tag and its content. In order: a head that is cut, tag, length, bytes missing.
@@ -146,6 +150,19 @@ def read_start(content, place, header, had):
     return Start(place, position, values)
 
 
+# An at-most rule (R-12): the count k, any byte, a four-byte set, then position bytes. In order: 20, 19 for every
+# position, 36.
+def read_at_most(content, place, header):
+    k, values, positions = content[0], set_at(content, 1), list(content[5:])
+    check_set(values, header, place, 'the set')
+    for at, position in enumerate(positions, 1):
+        check_position(position, header, place, f'number {at} of those named')
+    for at, position in enumerate(positions):
+        if position in positions[:at]:
+            raise Refused(36, place, f'position {position} is named twice')
+    return AtMost(place, k, values, positions)
+
+
 # The fields one after another, the header first, up to the first fault, which is raised.
 def fields(file):
     if len(file) == 0:
@@ -160,10 +177,12 @@ def fields(file):
             yield read_clause(content, place, header)
         elif tag == 3:
             yield read_equality(content, place, header)
-        else:
+        elif tag == 4:
             start = read_start(content, place, header, had)
             had.add(start.position)
             yield start
+        else:
+            yield read_at_most(content, place, header)
         place += 3 + len(content)
 
 
@@ -194,37 +213,48 @@ def taken(positions, assignment):
     return {assignment[position - 1] for position in positions}
 
 
-# An assignment meets a clause if it does so for some atom, an equality if the values taken are exactly M, and a
-# starting set if the position's value is in it (R-6).
+# An assignment meets a clause if it does so for some atom, an equality if the values taken are exactly M, a starting
+# set if the position's value is in it (R-6), and an at-most rule if no more than k of its positions take a value in its
+# set (R-12).
 def meets(rule, assignment):
     if isinstance(rule, Clause):
         return any(meets_atom(atom, assignment) for atom in rule.atoms)
     if isinstance(rule, Equality):
         return taken(rule.positions, assignment) == rule.values
+    if isinstance(rule, AtMost):
+        return sum(assignment[position - 1] in rule.values for position in rule.positions) <= rule.k
     return assignment[rule.position - 1] in rule.values
 
 
-# The clauses that a rule is gone through as, each a list of atoms. Those of an equality: for each named position
-# "it is in M"; then for each value m in M, rising, "one of the named positions is in {m}". A starting set has none:
-# the rooms lie inside it from the start, so that in a round it changes nothing and is never dead (R-6).
-def clauses_of(rule):
-    if isinstance(rule, Clause):
-        return [rule.atoms]
-    if isinstance(rule, Start):
-        return []
-    inside = [[Atom(position, rule.values)] for position in rule.positions]
-    each = [[Atom(position, frozenset([m])) for position in rule.positions] for m in sorted(rule.values)]
+# The clauses that an equality means: for each named position "it is in M"; then for each value m in M, rising, "one of
+# the named positions is in {m}".
+def equality_clauses(equality):
+    inside = [[Atom(position, equality.values)] for position in equality.positions]
+    each = [[Atom(position, frozenset([m])) for position in equality.positions] for m in sorted(equality.values)]
     return inside + each
 
 
 # ---- The search, step for step
+#
+# What is looked at, settled and live is a part of a rule: a clause, or an at-most rule as it was read (R-12). Here a
+# clause is the list of its positions, each with the union of that position's sets in the clause.
 
-# A clause as its positions, each with the union of that position's sets in the clause.
+# The clause of some atoms.
 def united(atoms):
     unions = {}
     for position, values in atoms:
         unions[position] = unions.get(position, frozenset()) | values
     return list(unions.items())
+
+
+# The parts of a rule, in the order in which they are gone through. A starting set has none: the rooms lie inside it
+# from the start, so that in a round it changes nothing and is never dead (R-6).
+def parts_of(rule):
+    if isinstance(rule, Clause):
+        return [united(rule.atoms)]
+    if isinstance(rule, Equality):
+        return [united(atoms) for atoms in equality_clauses(rule)]
+    return [rule] if isinstance(rule, AtMost) else []
 
 
 # The positions that are live in a clause, with their unions: those whose room meets the union. Two are enough:
@@ -239,35 +269,75 @@ def live_in(clause, rooms):
     return live
 
 
-# Step 1: rounds through the fields in file order, the clauses of each in 01's order and each room cut at once, until
-# a round cuts nothing. Every clause comes with the place of its field. Gives the rooms; where the box is dead the
-# place of the field first found dead (R-3), one with a clause that has no live position, and 0 where it is not dead;
-# and the rounds, of which the last one counts too: it cut nothing, or found a dead field (R-10).
-def shrink(clauses, rooms):
+# One look at a clause: whether it is dead, and the rooms that it cuts, by their positions. It is dead with no live
+# position, and cuts the room of the only one down to its union.
+def look_at_clause(clause, rooms):
+    live = live_in(clause, rooms)
+    if not live:
+        return True, {}
+    position, union = live[0]
+    if len(live) == 1 and not rooms[position] <= union:
+        return False, {position: rooms[position] & union}
+    return False, {}
+
+
+# One look at an at-most rule (R-12), the same of it. The rooms inside the set are counted first, wide ones too: more
+# than k are dead, and exactly k cut all other rooms that meet the set down to the values outside.
+def look_at_most(rule, rooms):
+    inside = {position for position in rule.positions if rooms[position] <= rule.values}
+    if len(inside) != rule.k:
+        return len(inside) > rule.k, {}
+    others = [position for position in rule.positions if position not in inside]
+    return False, {position: rooms[position] - rule.values for position in others if rooms[position] & rule.values}
+
+
+# One look at a part.
+def look(part, rooms):
+    return look_at_most(part, rooms) if isinstance(part, AtMost) else look_at_clause(part, rooms)
+
+
+# Step 1: rounds through the fields in file order, the parts of each in their order and each room cut at once, until
+# a round cuts nothing. Every part comes with the place of its field. Gives the rooms; where the box is dead the
+# place of the field first found dead (R-3), and 0 where it is not dead; and the rounds, of which the last one counts
+# too: it cut nothing, or found a dead field (R-10).
+def shrink(parts, rooms):
     rooms, cut, rounds = dict(rooms), True, 0
     while cut:
         cut, rounds = False, rounds + 1
-        for place, clause in clauses:
-            live = live_in(clause, rooms)
-            if not live:
+        for place, part in parts:
+            dead, smaller = look(part, rooms)
+            if dead:
                 return rooms, place, rounds
-            position, union = live[0]
-            if len(live) == 1 and not rooms[position] <= union:
-                rooms[position] = rooms[position] & union
+            if smaller:
+                rooms.update(smaller)
                 cut = True
     return rooms, 0, rounds
 
 
-# Step 2: the clauses not yet settled, those that have no position whose room lies inside its union. The box is
-# settled if there are none.
-def unsettled(clauses, rooms):
-    return [clause for place, clause in clauses if not any(rooms[position] <= union for position, union in clause)]
+# Step 2: whether a part is settled. A clause is if it has a position whose room lies inside its union, and an at-most
+# rule if at most k rooms meet its set (R-12).
+def settled(part, rooms):
+    if isinstance(part, AtMost):
+        return len(live_positions(part, rooms)) <= part.k
+    return any(rooms[position] <= union for position, union in part)
 
 
-# Step 4, as R-2 has it: the lowest-numbered position with two or more values in its room that is live in some clause
+# The parts not yet settled. The box is settled if there are none.
+def unsettled(parts, rooms):
+    return [part for place, part in parts if not settled(part, rooms)]
+
+
+# The positions that count as live in a part: those whose room meets the union, or the set of an at-most rule (R-12). In
+# the second the room may lie inside the set, and may have one value.
+def live_positions(part, rooms):
+    named = [(position, part.values) for position in part.positions] if isinstance(part, AtMost) else part
+    return {position for position, values in named if not values.isdisjoint(rooms[position])}
+
+
+# Step 4, as R-2 has it: the lowest-numbered position with two or more values in its room that is live in some part
 # of those left, which are not yet settled. Once shrinking is over there always is one (R-8).
 def split_position(left, rooms):
-    live = {position for clause in left for position, union in clause if not union.isdisjoint(rooms[position])}
+    live = {position for part in left for position in live_positions(part, rooms)}
     return min(position for position in live if len(rooms[position]) >= 2)
 
 
@@ -282,17 +352,17 @@ def halves(rooms, position):
 # with no split has met one box, the first, and has the place where that one is dead; any other has place 0 (R-3). The
 # rounds are those of the first box, the one that is shrunk before any split (R-10).
 def search(header, rules, allowance):
-    clauses = [(rule.place, united(atoms)) for rule in rules for atoms in clauses_of(rule)]
+    parts = [(rule.place, part) for rule in rules for part in parts_of(rule)]
     waiting = [starting_sets(header, rules)]
     splits = dead_ends = 0
     while waiting:
-        rooms, dead_at, rounds_here = shrink(clauses, waiting.pop())
+        rooms, dead_at, rounds_here = shrink(parts, waiting.pop())
         if splits == 0:
             rounds = rounds_here
         if dead_at > 0:
             dead_ends += 1
             continue
-        left = unsettled(clauses, rooms)
+        left = unsettled(parts, rooms)
         if not left:
             values = tuple(min(rooms[position]) for position in sorted(rooms))
             return Reply(PLAN, 0, splits, dead_ends, rounds, values)

@@ -1,5 +1,5 @@
-# Makes the expected output of `small_files` from the text of 01 and of 02's R-2, R-3, R-6 and R-10 alone: the same files
-# by the same generator, and a model of the refusals, of the meaning and of the search on Python's sets of values.
+# Makes the expected output of `small_files` from the text of 01 and of 02's R-2, R-3, R-6, R-10 and R-12 alone: the same
+# files by the same generator, and a model of the refusals, of the meaning and of the search on Python's sets of values.
 #
 # Every call of the planner that the program makes is made here too, in the same order, and the number, the place,
 # the splits, the dead ends and the rounds of each go into the checksum one by one. So the calls are compared one for
@@ -10,8 +10,9 @@ from itertools import count, product
 from math import prod
 
 P = 2147483647
-SIZES = [5329, 4641, 3136, 4380, 8000, 5456, 3822, 1680, 6000, 3000, 3000, 1000, 3000, 3000, 1000]
-SYSTEMATIC = 8
+SIZES = [5329, 4641, 3136, 4380, 8000, 5456, 3822, 1680, 6400, 4608, 2016, 1536,
+         6000, 3000, 3000, 1000, 3000, 3000, 1000, 3000, 3000]
+SYSTEMATIC = 12
 if len(sys.argv) > 1: SIZES = [int(x) for x in sys.argv[1].split(',')]
 STATS = len(sys.argv) > 2
 
@@ -48,6 +49,10 @@ def equality_no(mask, number, v):
         content += bytes([number % v + 1]); number //= v
     return field(3, content)
 
+# At most k positions in a set: the positions are the list with a number, of the lists of different ones of 1 to 3.
+LISTS = [[], [1], [2], [3], [1, 2], [1, 3], [2, 3], [1, 2, 3]]
+def at_most_no(k, mask, number): return field(5, bytes([k]) + mask.to_bytes(4, 'big') + bytes(LISTS[number]))
+
 # The starting set with a number: its position, then its set, which is not empty.
 def start_no(number, v): return field(4, atom(number % v + 1, number // v + 1))
 
@@ -68,6 +73,14 @@ def systematic(family, k):
         a, b = digits(k, [273]); return header(2, 3) + clause_no(a, 2, 8) + start_no(b, 2)
     if family == 7:
         b, s, l = digits(k, [14, 8]); return header(2, 3) + start_no(b, 2) + equality_no(s, l, 2)
+    if family == 8:
+        m, s, l, a = digits(k, [4, 8, 8]); return header(3, 3) + at_most_no(m, s, l) + clause_no(a, 3, 8)
+    if family == 9:
+        m, s, l, o, t, j = digits(k, [3, 4, 8, 3, 4]); return header(3, 2) + at_most_no(m, s, l) + at_most_no(o, t, 4 + j)
+    if family == 10:
+        b, m, s, l = digits(k, [21, 3, 8]); return header(3, 3) + start_no(b, 3) + at_most_no(m, s, 4 + l)
+    if family == 11:
+        t, m, s, l = digits(k, [8, 3, 8]); return header(3, 3) + field(3, t.to_bytes(4, 'big') + b'\1\2\3') + at_most_no(m, s, l)
 
 # A set from the bits of the values n down to 1.
 def set_by(n, bit):
@@ -75,12 +88,12 @@ def set_by(n, bit):
     for value in range(n, 0, -1): mask = mask * 2 + (1 if bit(value) else 0)
     return mask
 
-# What files are drawn: how many of eight fields are equalities and starting sets; in how many of four draws a value is
-# put into a set or into a starting set, and a set is {1..b} with at most one value changed.
+# What files are drawn: how many of eight fields are equalities, starting sets and at-most rules; in how many of four
+# draws a value is put into a set or into a starting set, and a set is {1..b} with at most one value changed.
 class Shape:
-    def __init__(self, v, n, fields, equalities=0, atoms=1, density=2, starts=0, fitted=2, ladders=0):
+    def __init__(self, v, n, fields, equalities=0, atoms=1, density=2, starts=0, fitted=2, ladders=0, at_mosts=0):
         self.v, self.n, self.fields, self.equalities, self.atoms = v, n, fields, equalities, atoms
-        self.density, self.starts, self.fitted, self.ladders = density, starts, fitted, ladders
+        self.density, self.starts, self.fitted, self.ladders, self.at_mosts = density, starts, fitted, ladders, at_mosts
 
 def drawn_set(src, shape):
     if src.draw(4) < shape.ladders:
@@ -96,6 +109,11 @@ def drawn_start(src, shape, had):
     had.add(p)
     return field(4, atom(p, mask))
 
+# At most 0 to 3 positions in a set: the positions in turn from one that is drawn on, each in three of four draws.
+def drawn_at_most(src, shape):
+    mask, k, first = drawn_set(src, shape), src.draw(4), src.draw(shape.v)
+    return field(5, bytes([k]) + mask.to_bytes(4, 'big') + bytes([(first + i) % shape.v + 1 for i in range(shape.v) if src.draw(4) < 3]))
+
 def drawn_field(src, shape, had):
     kind = src.draw(8)
     if kind < shape.equalities:
@@ -103,6 +121,7 @@ def drawn_field(src, shape, had):
         count = src.draw(shape.v + 1)
         return field(3, mask.to_bytes(4, 'big') + bytes([src.draw(shape.v) + 1 for _ in range(count)]))
     if kind < shape.equalities + shape.starts: return drawn_start(src, shape, had)
+    if kind < shape.equalities + shape.starts + shape.at_mosts: return drawn_at_most(src, shape)
     content = b''
     for _ in range(0 if src.draw(100) == 0 else shape.atoms + src.draw(3)):
         p = src.draw(shape.v) + 1
@@ -113,14 +132,16 @@ WIDE = [(12, 2, 8), (9, 2, 8), (7, 3, 8), (6, 4, 8), (5, 5, 8), (4, 8, 8), (3, 1
 def sized(src, least_v, more_v, least_n, more_n):
     v = least_v + src.draw(more_v); return v, least_n + src.draw(more_n)
 def shape_of(family, src):
-    if family == 8: return Shape(*sized(src, 1, 4, 1, 4), density=src.draw(3) + 1, fields=8, equalities=1)
-    if family == 9: return Shape(*sized(src, 3, 2, 2, 3), fields=10, atoms=2)
-    if family == 10: return Shape(*sized(src, 2, 3, 2, 3), fields=3, equalities=8, density=3)
-    if family == 11:
+    if family == 12: return Shape(*sized(src, 1, 4, 1, 4), density=src.draw(3) + 1, fields=8, equalities=1)
+    if family == 13: return Shape(*sized(src, 3, 2, 2, 3), fields=10, atoms=2)
+    if family == 14: return Shape(*sized(src, 2, 3, 2, 3), fields=3, equalities=8, density=3)
+    if family == 15:
         v, n, fields = WIDE[src.draw(10)]; return Shape(v, n, fields, equalities=2, atoms=2, density=src.draw(2) + 2)
-    if family == 12: return Shape(*sized(src, 1, 4, 2, 5), fields=8, equalities=1, starts=3)
-    if family == 13: return Shape(*sized(src, 2, 3, 3, 4), fields=9, starts=3, fitted=3, ladders=3)
-    return Shape(*sized(src, 3, 4, 8, 25), fields=10, equalities=1, starts=4, fitted=1)
+    if family == 16: return Shape(*sized(src, 1, 4, 2, 5), fields=8, equalities=1, starts=3)
+    if family == 17: return Shape(*sized(src, 2, 3, 3, 4), fields=9, starts=3, fitted=3, ladders=3)
+    if family == 18: return Shape(*sized(src, 3, 4, 8, 25), fields=10, equalities=1, starts=4, fitted=1)
+    if family == 19: return Shape(*sized(src, 3, 4, 2, 3), fields=6, atoms=2, at_mosts=5)
+    return Shape(*sized(src, 1, 4, 2, 5), fields=8, equalities=1, starts=2, at_mosts=2)
 def drawn(family, src):
     shape = shape_of(family, src)
     out, had = header(shape.v, shape.n), set()
@@ -141,10 +162,10 @@ def read(file):
         tag = rest[0]
         if at == 0 and tag != 1: return ('refused', 14, 0)
         if at > 0 and tag == 1: return ('refused', 15, at)
-        if tag not in (1, 2, 3, 4): return ('refused', 16, at)
+        if tag not in (1, 2, 3, 4, 5): return ('refused', 16, at)
         length = rest[1] * 256 + rest[2]
         if tag == 1 and length != 2 or tag == 2 and length % 5 or tag == 3 and not 4 <= length <= 68: return ('refused', 17, at)
-        if tag == 4 and length != 5: return ('refused', 17, at)
+        if tag == 4 and length != 5 or tag == 5 and not 5 <= length <= 69: return ('refused', 17, at)
         if len(rest) - 3 < length: return ('refused', 13, at)
         c = rest[3:3 + length]
         if tag == 1:
@@ -166,6 +187,13 @@ def read(file):
             if p in had: return ('refused', 27, at)
             had.add(p)
             rules.append(('start', p, s, at))
+        elif tag == 5:
+            s, named = members(c[1:5]), c[5:]
+            if s and max(s) > n: return ('refused', 20, at)
+            for p in named:
+                if not 1 <= p <= v: return ('refused', 19, at)
+            if len(set(named)) < len(named): return ('refused', 36, at)
+            rules.append(('at most', c[0], s, list(named), at))
         else:
             s = members(c[:4])
             if s and max(s) > n: return ('refused', 20, at)
@@ -180,9 +208,10 @@ def starting(v, n, rules):
     given = {r[1]: r[2] for r in rules if r[0] == 'start'}
     return [given.get(p, frozenset(range(1, n + 1))) for p in range(1, v + 1)]
 
-# ---- 01, "What rules mean"
+# ---- 01, "What rules mean", and 02's R-12
 def met(rule, a):
     if rule[0] == 'clause': return any(a[p - 1] in s for p, s in rule[1])
+    if rule[0] == 'at most': return len([p for p in rule[3] if a[p - 1] in rule[2]]) <= rule[1]
     return {a[p - 1] for p in rule[2]} == rule[1]
 
 # All plans in dictionary order, which are assignments inside the starting sets.
@@ -196,58 +225,76 @@ def is_ladder(s, start):
     return all(y in s for x in s & start for y in start if y < x)
 
 # Whether every rule is a clause, with at most one position whose united set does not count as {1..b}, or a starting set.
+# An at-most rule is outside, as an equality is (R-12).
 def special(rooms, rules):
     return all(r[0] == 'start' or r[0] == 'clause'
                and sum(not is_ladder(s, rooms[p - 1]) for p, s in united(r[1]).items()) <= 1 for r in rules)
 
 # ---- 01, "The search, step for step", from the starting sets on (R-6), with step 4 as 02 has it (R-2), the place of the
-# field first found dead (R-3) and the rounds of the first box (R-10)
+# field first found dead (R-3), the rounds of the first box (R-10) and at-most rules (R-12)
 def united(c):
     union = {}
     for p, s in c: union[p] = union.get(p, frozenset()) | s
     return union
 
-# A field as its place and its clauses, those of an equality in 01's order. A starting set has none.
-def as_clauses(r):
-    if r[0] == 'start': cs = []
-    elif r[0] == 'clause': cs = [r[1]]
-    else: cs = [[(p, r[1])] for p in r[2]] + [[(p, frozenset([m])) for p in r[2]] for m in sorted(r[1])]
-    return r[-1], [united(c) for c in cs]
+# A clause, by the union of each of its positions.
+class OneOf:
+    def __init__(self, atoms): self.union = united(atoms)
+    # Cuts the room of the only live position at once. Whether it is dead.
+    def look(self, rooms):
+        live = [p for p in self.union if rooms[p - 1] & self.union[p]]
+        if len(live) == 1: rooms[live[0] - 1] &= self.union[live[0]]
+        return not live
+    def settled(self, rooms): return any(rooms[p - 1] <= s for p, s in self.union.items())
+    def live(self, p, room): return room & self.union.get(p, set())
+
+# At most k of the positions in a set (R-12).
+class AtMost:
+    def __init__(self, k, values, named): self.k, self.values, self.named = k, values, named
+    # Cuts the rooms that meet the set and are not inside it, where k are. Whether it is dead.
+    def look(self, rooms):
+        inside = sum(rooms[p - 1] <= self.values for p in self.named)
+        if inside == self.k:
+            for p in self.named: rooms[p - 1] = rooms[p - 1] - self.values or rooms[p - 1]
+        return inside > self.k
+    def settled(self, rooms): return sum(bool(rooms[p - 1] & self.values) for p in self.named) <= self.k
+    def live(self, p, room): return p in self.named and room & self.values
+
+# A field as its place and its parts: the clauses of an equality in 01's order. A starting set has none.
+def as_parts(r):
+    if r[0] == 'start': parts = []
+    elif r[0] == 'clause': parts = [OneOf(r[1])]
+    elif r[0] == 'at most': parts = [AtMost(*r[1:4])]
+    else: parts = [OneOf([(p, r[1])]) for p in r[2]] + [OneOf([(p, frozenset([m])) for p in r[2]]) for m in sorted(r[1])]
+    return r[-1], parts
 
 class Stop(Exception): pass
 # The place is that of the first box where shrinking finds it dead, and else 0, as in every search that splits. The
 # rounds are those of the first box, the one that is shrunk before any split.
 class Search:
     def __init__(self, v, n, rules, allowed):
-        self.fields, self.allowed, self.splits, self.dead = [as_clauses(r) for r in rules], allowed, 0, 0
-        self.cs = [u for _, us in self.fields for u in us]
+        self.fields, self.allowed, self.splits, self.dead = [as_parts(r) for r in rules], allowed, 0, 0
+        self.parts = [part for _, parts in self.fields for part in parts]
         try:
             plan = self.box(starting(v, n, rules))
             self.number, self.plan = (0, plan) if plan else (1, None)
         except Stop as s: self.number, self.plan = s.args[0], None
-    # One field, its clauses in turn, each room cut at once. Whether it is dead; it is left at its first dead clause.
-    def look(self, us, rooms):
-        for u in us:
-            live = [p for p in u if rooms[p - 1] & u[p]]
-            if not live: return True
-            if len(live) == 1: rooms[live[0] - 1] &= u[live[0]]
-        return False
-    # The fields in file order, over and over: the place of the field first found dead, 0 where a round changes nothing;
-    # and the rounds up to that one, which counts.
+    # The fields in file order, over and over, each left at its first dead part: the place of the field first found dead, 0
+    # where a round changes nothing; and the rounds up to that one, which counts.
     def shrink(self, rooms):
         for rounds in count(1):
             before = list(rooms)
-            for place, us in self.fields:
-                if self.look(us, rooms): return place, rounds
+            for place, parts in self.fields:
+                if any(part.look(rooms) for part in parts): return place, rounds
             if rooms == before: return 0, rounds
     def box(self, rooms):
         rooms = list(rooms)
         dead_at, rounds = self.shrink(rooms)
         if self.splits == 0: self.place, self.rounds = dead_at, rounds
         if dead_at: self.dead += 1; return None
-        left = [u for u in self.cs if not any(rooms[p - 1] <= u[p] for p in u)]
+        left = [part for part in self.parts if not part.settled(rooms)]
         if not left: return tuple(min(r) for r in rooms)
-        i = next(i for i, r in enumerate(rooms) if len(r) >= 2 and any(r & u.get(i + 1, set()) for u in left))
+        i = next(i for i, r in enumerate(rooms) if len(r) >= 2 and any(part.live(i + 1, r) for part in left))
         if self.splits >= self.allowed: raise Stop(2)
         self.splits += 1
         low = min(rooms[i])
@@ -267,7 +314,7 @@ def plan(file, length, allowance):
     return Refused(*r[1:]) if r[0] == 'refused' else Search(*r[1:], allowance)
 
 # ---- the program's counts
-REFUSALS = [*range(10, 21), 26, 27]
+REFUSALS = [*range(10, 21), 26, 27, 36]
 T = dict.fromkeys([0, 1, 2, *REFUSALS, 'files', 'damaged', 'special', 'splits', 'dead', 'places', 'rounds', 'checksum', 'comparisons'], 0)
 hist = {}
 
@@ -342,13 +389,12 @@ def limits(file, full):
 
 def damaged(src, file):
     def tried(b): T['damaged'] += 1; judge(bytes(b))
-    def more(i): tried(file[:i] + bytes([src.draw(6)]) + file[i:])
+    def more(i): tried(file[:i] + bytes([src.draw(7)]) + file[i:])
     for i in range(len(file)):
         tried(file[:i])
         tried(file[:i] + bytes([(file[i] + 251 + src.draw(5)) % 256]) + file[i + 1:])
         tried(file[:i] + bytes([(file[i] + 1 + src.draw(255)) % 256]) + file[i + 1:])
-        tried(file[:i] + bytes([4]) + file[i + 1:])
-        tried(file[:i] + bytes([0]) + file[i + 1:])
+        for another in (4, 5, 0): tried(file[:i] + bytes([another]) + file[i + 1:])
         more(i)
     more(len(file))
     at = 5
@@ -358,6 +404,7 @@ def damaged(src, file):
         tried(twice)
         twice[-1] = 0; tried(twice)
         twice[-1] = 255; tried(twice)
+        twice[-1] = twice[-2]; tried(twice)
         if len(file) + 3 < len(twice): twice[len(file) + 3] = 0
         tried(twice)
         at = end

@@ -1,4 +1,5 @@
-# Writes rule files from 01's section "The rule file" and 02's R-6: `header(2, 2) + equality({1, 2}, 1, 2)` is case e.
+# Writes rule files from 01's section "The rule file" and 02's: `header(2, 2) + equality({1, 2}, 1, 2)` is
+# case e.
 
 # The number that stands for a set: the lowest bit stands for value 1.
 def mask_of(values):
@@ -33,3 +34,8 @@ def equality(values, *positions):
 # The starting set of a position (02, R-6).
 def start(position, values):
     return field(4, bytes([position]) + set_bytes(values))
+
+
+# At most k of the named positions take a value in the set (02, R-12).
+def at_most(k, values, *positions):
+    return field(5, bytes([k]) + set_bytes(values) + bytes(positions))

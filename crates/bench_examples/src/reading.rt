@@ -1,10 +1,12 @@
-// 01's examples of reading: what is refused in a file, and what is not.
+// 01's examples of reading, and those of at-most rules (02, R-12): what is refused in a file, and what is not.
 use super::line::show;
 
 // All of them, in this order.
 pub(crate) fn all() {
     headers();
     rules();
+    at_most_rules();
+    at_most_positions();
 }
 
 // Files that end with the header or before it.
@@ -44,4 +46,42 @@ fn rules() {
         1_000_000,
         2,
     );
+}
+
+// Faults of an at-most rule at place 5, where v is 2 and n is 2: length 4; length 7 with a byte missing, where
+// the value 3 is in the set; and the value 3 with position 3, 20 before 19.
+fn at_most_rules() {
+    show(
+        b"at-most-17",
+        b"\x01\0\x02\x02\x02\x05\0\x04\x01\0\0\0",
+        1_000_000,
+        2,
+    );
+    show(
+        b"at-most-13",
+        b"\x01\0\x02\x02\x02\x05\0\x07\x01\0\0\0\x04\x01",
+        1_000_000,
+        2,
+    );
+    show(
+        b"at-most-20",
+        b"\x01\0\x02\x02\x02\x05\0\x06\x01\0\0\0\x04\x03",
+        1_000_000,
+        2,
+    );
+}
+
+// The same, with the positions 3 and 3, 1 and 1, and 1, 1 and 3: 19 for every position comes before 36. Then a
+// field of tag 6, which is not known.
+fn at_most_positions() {
+    let mut file = *b"\x01\0\x02\x02\x02\x05\0\x07\x01\0\0\0\x01\x03\x03\x03";
+    show(b"at-most-19", &file[0..15], 1_000_000, 2);
+    file[13] = 1;
+    file[14] = 1;
+    show(b"at-most-36", &file[0..15], 1_000_000, 2);
+    file[7] = 8;
+    show(b"at-most-19-before-36", &file, 1_000_000, 2);
+    file[5] = 6;
+    file[7] = 5;
+    show(b"tag-6", &file[0..13], 1_000_000, 2);
 }

@@ -15,7 +15,7 @@ use Rattle.rules.proofs.Reading.ContentLaws.{start-parts}
 use Rattle.rules.proofs.Reading.WalkLaws.{FieldHere}
 use Rattle.steps.specs.Shrinking.{Look, lookClause, lookPart, lookParts, lookRule}
 use Rattle.clauses.specs.Looks.{AfterLook, Leaves}
-use Rattle.boxes.proofs.LooksInTurn.{in-turn-one}
+use Rattle.steps.proofs.Looks.InTurn.{in-turn-one}
 
 module _ {v at : ℕ} {s : List ℕ} {left : List Field} {head : Head} {content : List ℕ} (field : FieldHere s v at left head content) {rooms after : List ℕ} {r : Bool} where
   -- what a look at the rule that a content of this kind is leaves, a look at the field's rule leaves

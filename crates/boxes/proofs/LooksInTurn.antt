@@ -7,11 +7,13 @@ use native.Mathlib.Omega.{arith}
 use lib.ListN.{length, take, drop, length-set, take-append-drop}
 use Rattle.rules.specs.declared.field.Atom.{Atom}
 use Rattle.rules.specs.Rules.{Rule}
-use Rattle.rules.specs.Parts.{Part, oneOf, partsOf}
+use Rattle.rules.specs.Parts.{Part, oneOf, noMoreThan, partsOf}
 use Rattle.steps.specs.Boxes.{withRoom}
-use Rattle.steps.specs.Shrinking.{Look, dead, alive, ifAlive, cut, liveFrom, lookBy, lookClause, lookPart, inTurn, lookParts, lookRule}
+use Rattle.steps.specs.Shrinking.{Look, dead, alive, ifAlive, cut, liveFrom, lookBy, lookClause, cutOthers, lookAtMost, lookPart, inTurn, lookParts, lookRule}
 use Rattle.lists.proofs.FrontParts.{front-placed}
-use Rattle.steps.proofs.Looks.InTurn.{Keeps, dead-not-alive, in-turn-then, in-turn-keeps}
+use Rattle.steps.proofs.Looks.InTurn.{Keeps, dead-not-alive, alive-once, in-turn-one, in-turn-then, in-turn-keeps}
+use Rattle.steps.proofs.Looks.AtMostLaws.{AtMostLook, too-many, just-enough, fewer, at-most-look}
+use Rattle.steps.proofs.Looks.CutOthers.{cut-length}
 use Rattle.clauses.specs.Looks.{AfterLook, Leaves}
 
 -- ---- a look keeps the number of rooms
@@ -27,9 +29,19 @@ pub clause-keeps : (place : ℕ) (atoms : List Atom) (k : ℕ) → Keeps (λ box
 unfolding lookClause
 clause-keeps place atoms k box box′ h e = h ∙ by-length (liveFrom atoms 1 box) place atoms box box′ e
 
+-- at "no more than n"
+at-most-keeps : (place n m : ℕ) (ps : List ℕ) (k : ℕ) → Keeps (λ box. k ≡ length box) (lookAtMost place n m ps)
+at-most-keeps place n m ps k box box′ h e = go (at-most-look place n m ps box)
+  where
+    go : AtMostLook place n m ps box → k ≡ length box′
+    go (too-many more f) = absurd (dead-not-alive (lookAtMost place n m ps box) place box′ f e)
+    go (just-enough is f) = h ∙ sym (cut-length m ps box) ∙ ap length (alive-once (lookAtMost place n m ps box) (cutOthers m ps box) box′ f e)
+    go (fewer less f) = h ∙ ap length (alive-once (lookAtMost place n m ps box) box box′ f e)
+
 -- at a part
 pub part-keeps : (place : ℕ) (part : Part) (k : ℕ) → Keeps (λ box. k ≡ length box) (lookPart place part)
 part-keeps place (oneOf atoms) k = clause-keeps place atoms k
+part-keeps place (noMoreThan n m ps) k = at-most-keeps place n m ps k
 
 -- at parts one after the other
 pub parts-keep : (place : ℕ) (parts : List Part) (k : ℕ) → Keeps (λ box. k ≡ length box) (lookParts place parts)
@@ -56,15 +68,6 @@ true-not-false : {r : Bool} → r ≡ true → r ≡ false → ⊥
 true-not-false t f = let z : _≡_ {A = ℕ} 0 1 = cc in omega arith
 
 -- ---- what is left to look at
-
--- a look at one alone
-pub in-turn-one : {A : Type 0} (look : A → List ℕ → Look) (x : A) (box : List ℕ) → inTurn look (x ∷ []) box ≡ look x box
-unfolding inTurn
-in-turn-one look x box = go (look x box)
-  where
-    go : (l : Look) → (ifAlive l (λ p. dead p) λ b. alive b) ≡ l
-    go (dead p) = refl
-    go (alive b) = refl
 
 -- looks in turn at two lists, one behind the other, are looks in turn at each
 pub append-in-turn : {A : Type 0} (look : A → List ℕ → Look) (xs ys : List A) (box : List ℕ) → inTurn look (xs ++ ys) box ≡ inTurn (inTurn look) (xs ∷ ys ∷ []) box

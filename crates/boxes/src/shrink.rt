@@ -15,6 +15,7 @@ ghost use Rattle.rules.specs.Sound.{SoundInput};
 ghost use Rattle.rules.specs.Walk.{Walk};
 ghost use Rattle.boxes.specs.Promise.{Shrinks};
 use super::equality::look_equality;
+use at_most::look::look_at_most;
 use clauses::look::look_atoms;
 use rules::field::Tag;
 use rules::field::head_at;
@@ -53,6 +54,7 @@ pub(crate) fn look_field(
         Tag::Clause => look_atoms(rooms, content, len, v),
         Tag::Equality => look_equality(rooms, content, len, v),
         Tag::Starting => look_atoms(rooms, content, len, v),
+        Tag::AtMost => look_at_most(rooms, content, len, v),
         Tag::Unknown => true,
     }
 }

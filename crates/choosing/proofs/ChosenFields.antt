@@ -24,7 +24,8 @@ use Rattle.steps.specs.Search.{splittable, chosen}
 use Rattle.steps.proofs.Boxes.BoxSizes.{wide-and}
 use Rattle.steps.proofs.Search.Chosen.{may-split}
 use Rattle.steps.specs.Boxes.{wide}
-use Rattle.choosing.specs.LowestBy.{firstWide, splitsBy, lowestBy}
+use Rattle.lowest.specs.LowestBy.{splitsBy, lowestBy}
+use Rattle.choosing.specs.FirstWide.{firstWide}
 
 -- what the fields from a place on leave to be split, below the best index so far, is what is chosen
 pub record FieldsLeft (s : List ℕ) (v : ℕ) (rooms : List ℕ) (best at : ℕ) : Type 0 where

@@ -1,3 +1,2 @@
-pub mod LowestBy
+pub mod FirstWide
 pub mod Promise
-pub mod Untaken

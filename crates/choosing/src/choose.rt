@@ -1,12 +1,14 @@
 // Where to split a box: a nested scan over fields and atoms, which leaves a field at the first atom
-// that shows it settled. The contracts cite specs/Promise.antt and specs/LowestBy.antt.
+// that shows it settled. The contracts cite specs/Promise.antt and specs/FirstWide.antt, and `Masks`
+// of the crate `lowest`.
 ghost use mathlib.Core.Path.{_≡_};
 ghost use Prim.Native.Nat.{_≤_};
 ghost use Rattle.rules.specs.Sound.{SoundInput};
-ghost use Rattle.choosing.specs.LowestBy.{firstWide, Masks};
+ghost use Rattle.lowest.specs.LowestBy.{Masks};
+ghost use Rattle.choosing.specs.FirstWide.{firstWide};
 ghost use Rattle.choosing.specs.Promise.{Chooses};
-use super::kinds::lowest_by_kind;
 use clauses::settle::settled_united;
+use lowest::kinds::lowest_by_kind;
 use rules::field::Tag;
 use rules::field::atom_at;
 use rules::field::head_at;

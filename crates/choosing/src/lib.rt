@@ -3,6 +3,3 @@
 //
 // The rooms of positions 1 to v are the first v masks of an array of 64; the others play no part.
 pub mod choose;
-mod equality;
-mod kinds;
-mod starting;

@@ -11,7 +11,7 @@ use Rattle.clauses.specs.Looks.{AfterLook}
 use Rattle.clauses.specs.Promise.{LooksAtoms, UnitesAt, SettlesUnited}
 
 -- a look leaves one answer, and one list of rooms where a dead one keeps them
-after-unique : (l : Look) (before rest : List ℕ) {r s : Bool} {after last : List ℕ} → AfterLook (λ _. false) true l r after rest → AfterLook (λ _. false) true l s last rest
+pub after-unique : (l : Look) (before rest : List ℕ) {r s : Bool} {after last : List ℕ} → AfterLook (λ _. false) true l r after rest → AfterLook (λ _. false) true l s last rest
     → (r ≡ false → after ≡ before) → (s ≡ false → last ≡ before) → (r ≡ s) × (after ≡ last)
 after-unique (dead place) before rest p q f g = (one-result p q, one-result (f p) (g q))
 after-unique (alive box) before rest p q f g = (one-result (p .0) (q .0), one-result (p .1) (q .1))

@@ -1,5 +1,6 @@
 pub mod BufferLaws
 pub mod FrontParts
+pub mod PassingLaws
 pub mod ListLaws
 pub mod LowestLaws
 pub mod TakeDrop

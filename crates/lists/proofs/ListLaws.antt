@@ -2,7 +2,7 @@
 use mathlib.Core.Path.{refl, sym, subst}
 use mathlib.Core.List.{List, [], _∷_, _++_, map, List·Memᴰ, List·Memᴰ·head, List·Memᴰ·tail}
 use mathlib.Core.Logic.{_↔_, _⊎_, inl, inr, ⊎-elim, ⊎-map}
-use Prim.Native.Nat.{ℕ, zero, suc, _<_}
+use Prim.Native.Nat.{ℕ, zero, suc, _<_, zero-le, suc-le-suc}
 use native.Mathlib.Nat.{le-of-suc-le-suc, not-suc-le-zero}
 use lib.ListN.{length, getD, set}
 use Rattle.lists.specs.Lists.{Some, Every}
@@ -149,6 +149,11 @@ module _ (P : ℕ → Type 0) where
   every-at-place [] i h l = absurd (not-suc-le-zero l)
   every-at-place (x ∷ xs) zero h l = h .0
   every-at-place (x ∷ xs) (suc i) h l = every-at-place xs i (h .1) (le-of-suc-le-suc l)
+
+  -- and what holds at each place holds of every element
+  pub every-of-places : (xs : List ℕ) → ((i : ℕ) → i < length xs → P (getD xs i 0)) → Every P xs
+  every-of-places [] h = tt
+  every-of-places (x ∷ xs) h = (h 0 (suc-le-suc zero-le), every-of-places xs (λ i l. h (suc i) (suc-le-suc l)))
 
   -- what holds of every element and of the new one holds of every element afterwards
   pub every-set : (xs : List ℕ) (i x : ℕ) → Every P xs → P x → Every P (set xs i x)

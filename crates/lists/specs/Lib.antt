@@ -1,3 +1,4 @@
 pub mod Lists
 pub mod Buffer
 pub mod Lowest
+pub mod Passing

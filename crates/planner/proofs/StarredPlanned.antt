@@ -1,4 +1,4 @@
--- 01's twelve starred cases, the two of R-3, the five of R-10 and the four of R-6 over the promise itself: `starred-planned`. Assumes nothing.
+-- 01's twelve starred cases, the two of R-3, the five of R-10, the four of R-6 and the nine of R-12 over the promise itself: `starred-planned`. Assumes nothing.
 use mathlib.Core.Path.{_≡_, sym, _∙_}
 use mathlib.Core.List.{List}
 use Prim.Native.Nat.{ℕ, _≤_}
@@ -8,7 +8,7 @@ use Rattle.lists.specs.Lists.{Every}
 use Rattle.lists.proofs.ListLaws.{every-map}
 use Rattle.steps.specs.Reply as steps
 use Rattle.steps.specs.Table.{replyOf}
-use Rattle.steps.specs.Cases.{Case, starred, unmet, inRounds, started}
+use Rattle.steps.specs.Cases.{Case, starred, unmet, inRounds, started, atMosts}
 use Rattle.steps.proofs.StarredCases.{Holds, starred-hold}
 use Rattle.searching.specs.declared.reply.Reply.{Reply}
 use Rattle.searching.specs.Answered.{Answered}
@@ -26,13 +26,14 @@ Promised c =
     (before after : List ℕ) (r : Reply) → 64 ≤ length before → Planned (c .bytes) before after (c .allowed) r
     → Answered (c .reply) r before after
 
--- each starred case, and each of R-3, R-10 and R-6
-pub starred-planned : Every Promised starred × Every Promised unmet × Every Promised inRounds × Every Promised started
+-- each starred case, and each of R-3, R-10, R-6 and R-12
+pub starred-planned : Every Promised starred × Every Promised unmet × Every Promised inRounds × Every Promised started × Every Promised atMosts
 starred-planned = (
   every-map Holds Promised starred promised (starred-hold .0),
   every-map Holds Promised unmet promised (starred-hold .1),
   every-map Holds Promised inRounds promised (starred-hold .2),
   every-map Holds Promised started promised (starred-hold .3),
+  every-map Holds Promised atMosts promised (starred-hold .4),
 )
   where
     promised : (c : Case) → Holds c → Promised c

@@ -10,7 +10,7 @@ use Rattle.rules.specs.declared.field.Head.{Head}
 use Rattle.rules.specs.declared.field.Tag.{Tag}
 use Rattle.rules.specs.declared.field.Tag.the-variants.{Starting}
 use Rattle.rules.specs.Contents.{AtomsFit}
-use Rattle.rules.specs.Rules.{Rule, Field, File, clause, equality, starting}
+use Rattle.rules.specs.Rules.{Rule, Field, File, clause, equality, starting, atMost}
 use Rattle.rules.specs.Reading.{sound, tagOf, atomOf, ruleOf, ruleAt, reading}
 use Rattle.rules.specs.Sound.{fileOf, fieldsIn}
 use Rattle.rules.specs.UpTo.{rulesOf}
@@ -104,5 +104,6 @@ unfolding startsBy startBy withRoom
 front-starts v [] rooms = refl
 front-starts v (clause atoms ∷ rules) rooms = front-starts v rules rooms
 front-starts v (equality m ps ∷ rules) rooms = front-starts v rules rooms
+front-starts v (atMost k m ps ∷ rules) rooms = front-starts v rules rooms
 front-starts v (starting a ∷ rules) rooms =
     front-starts v rules (set rooms (a .position - 1) (a .set)) ∙ ap (startsBy rules) (front-set v rooms (a .position - 1) (a .set))

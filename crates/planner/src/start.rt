@@ -31,6 +31,7 @@ fn start_field(input: &[u8], at: usize, rooms: &mut [u32; Room::POSITIONS])
         Tag::Header => {}
         Tag::Clause => {}
         Tag::Equality => {}
+        Tag::AtMost => {}
         Tag::Unknown => {}
     }
 }

@@ -10,7 +10,7 @@ const NONE: usize = 1_000;
 
 // Shows every file of the list, in its order.
 pub(crate) fn all() {
-    let mut space = [0u8; 16384];
+    let mut space = [0u8; 32768];
     read_into(&mut space);
 }
 

@@ -1,5 +1,5 @@
-// Files with an equality of many positions, a clause of many atoms or many starting sets. Every byte
-// that is not named here is 1.
+// Files with an equality of many positions, a clause of many atoms, many starting sets or an at-most rule of
+// many positions. Every byte that is not named here is 1.
 ghost use mathlib.Core.Path.{_≡_};
 ghost use lib.ListN.{length};
 use super::line::show;
@@ -11,6 +11,7 @@ pub(crate) fn all() {
     long_clause();
     longest_file();
     starting_sets();
+    long_at_most();
 }
 
 // A file of 32,768 bytes: a header of v positions and 32 values, and the tag and the length of a field.
@@ -34,14 +35,14 @@ fn long_equality() {
     let mut file = started(64, 3, 0, 68);
     file[75] = 64;
     // Length 68.
-    show_front(236, &file, 76);
+    show_front(308, &file, 76);
     file[7] = 69;
     // Length 69, with position 1 at its end.
-    show_front(237, &file, 77);
+    show_front(309, &file, 77);
     file[7] = 68;
     file[75] = 65;
     // Length 68 again, with 65 as the last position.
-    show_front(238, &file, 76);
+    show_front(310, &file, 76);
 }
 
 // A clause of 260 bytes, a length that needs its high byte: 52 times position 1 with the same
@@ -49,19 +50,19 @@ fn long_equality() {
 fn long_clause() {
     let file = started(1, 2, 1, 4);
     // It ends with the clause.
-    show_front(239, &file, 268);
+    show_front(311, &file, 268);
     // One byte more, at a place above 255.
-    show_front(240, &file, 269);
+    show_front(312, &file, 269);
 }
 
 // A file of 32,768 bytes, the most that an input may have: a clause of 6552 atoms like those.
 fn longest_file() {
     let mut file = started(1, 2, 127, 248);
     // It is sound.
-    show(241, &file);
+    show(313, &file);
     file[32763] = 2;
     // Position 2 in its last atom, where v is 1.
-    show(242, &file);
+    show(314, &file);
 }
 
 // Writes a file of v 64 and n 1: starting sets of the positions 1 to 64, and behind them one more, of
@@ -102,13 +103,40 @@ fn starting_sets() {
     let file: &mut [u8] = &mut space;
     write_started(file);
     // The 64 alone.
-    show_front(243, file, 517);
+    show_front(315, file, 517);
     // A second one for position 1, the first of all.
-    show(244, file);
+    show(316, file);
     file[520] = 64;
     // A second one for position 64, the one before it.
-    show(245, file);
+    show(317, file);
     file[524] = 0;
     // The same with the empty set.
-    show(246, file);
+    show(318, file);
+}
+
+// An at-most rule of the positions 1 to 64, the most that there may be, with the value 1. v is 64, and n 2.
+fn long_at_most() {
+    let mut file = *b"\x01\0\x02\x40\x02\
+      \x05\0\x45\x01\0\0\0\x01\
+      \x01\x02\x03\x04\x05\x06\x07\x08\x09\x0a\x0b\x0c\x0d\x0e\x0f\x10\
+      \x11\x12\x13\x14\x15\x16\x17\x18\x19\x1a\x1b\x1c\x1d\x1e\x1f\x20\
+      \x21\x22\x23\x24\x25\x26\x27\x28\x29\x2a\x2b\x2c\x2d\x2e\x2f\x30\
+      \x31\x32\x33\x34\x35\x36\x37\x38\x39\x3a\x3b\x3c\x3d\x3e\x3f\x40\
+      \x01";
+    // Length 69.
+    show_front(319, &file, 77);
+    file[7] = 70;
+    // Length 70, with position 1 once more at its end.
+    show(320, &file);
+    file[7] = 69;
+    file[76] = 1;
+    // Length 69 again, with position 1 as the first and as the last.
+    show_front(321, &file, 77);
+    file[76] = 63;
+    // Position 63 twice, at the end.
+    show_front(322, &file, 77);
+    file[76] = 65;
+    file[75] = 1;
+    // Position 1 twice, and 65 as the last.
+    show_front(323, &file, 77);
 }

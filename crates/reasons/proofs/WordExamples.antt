@@ -18,6 +18,11 @@ pub example-words-starting :
 unfolding wordsOf placeOf faultOf faults newline decimal digits bytesOf
 example-words-starting = (refl, refl, refl, refl)
 
+-- those of an at-most field (R-12), and nothing at the numbers beside it
+pub example-words-twice : (wordsOf 36 13 ≡ bytesOf "field at byte 13: a position that is named twice\n") × (faultOf 35 ≡ []) × (faultOf 37 ≡ [])
+unfolding wordsOf placeOf faultOf faults newline decimal digits bytesOf
+example-words-twice = (refl, refl, refl)
+
 -- a refusal that stands at no field
 pub example-words-start : wordsOf 14 0 ≡ bytesOf "the input is empty, or its first tag is not 1 (header)\n"
 unfolding wordsOf placeOf faultOf faults newline decimal digits bytesOf

@@ -47,34 +47,34 @@ place-length number place = by-number (ltb number 13) (eqb number 14)
 
 -- where the words for each number begin in a row, and where the last end
 abbrev starts : List ℕ
-starts = 0 ∷ 36 ∷ 78 ∷ 115 ∷ 198 ∷ 252 ∷ 267 ∷ 290 ∷ 324 ∷ 407 ∷ 459 ∷ 504 ∷ 504 ∷ 504 ∷ 504 ∷ 504 ∷ 504 ∷ 532 ∷ 570 ∷ []
+starts = 0 ∷ 36 ∷ 78 ∷ 115 ∷ 198 ∷ 252 ∷ 267 ∷ 290 ∷ 324 ∷ 407 ∷ 459 ∷ 504 ∷ 504 ∷ 504 ∷ 504 ∷ 504 ∷ 504 ∷ 532 ∷ 570 ∷ 570 ∷ 570 ∷ 570 ∷ 570 ∷ 570 ∷ 570 ∷ 570 ∷ 570 ∷ 600 ∷ []
 
 -- these places rise up to the end of the row
-pub starts-rise : (i : ℕ) → i < 18 → (getD starts i 0 ≤ getD starts (i + 1) 0) × (getD starts (i + 1) 0 ≤ 570)
-starts-rise i lt = rises-at 570 starts i (omega arith, (omega arith, (omega arith, (omega arith, omega arith)))) (omega arith)
+pub starts-rise : (i : ℕ) → i < 27 → (getD starts i 0 ≤ getD starts (i + 1) 0) × (getD starts (i + 1) 0 ≤ 600)
+starts-rise i lt = rises-at 600 starts i tt (omega arith)
 
 -- below 10 nothing is wrong
 pub fault-below : (number : ℕ) → number < 10 → faultOf number ≡ []
 unfolding faultOf
 fault-below number lt = simp (lt-ltb number 10 lt)
 
--- above 27 neither
-pub fault-above : (number : ℕ) → 27 < number → faultOf number ≡ []
+-- above 36 neither
+pub fault-above : (number : ℕ) → 36 < number → faultOf number ≡ []
 unfolding faultOf faults
 fault-above number lt = simp (le-ltb number 10 (omega arith)) (List·getD-eq-default faults [] {n = number - 10} (omega arith))
 
--- from 10 to 27 the words are cut out of the row
-pub fault-cut : (number : ℕ) → 10 ≤ number → number ≤ 27
+-- from 10 to 36 the words are cut out of the row
+pub fault-cut : (number : ℕ) → 10 ≤ number → number ≤ 36
     → take (getD starts (number - 10 + 1) 0 - getD starts (number - 10) 0) (drop (getD starts (number - 10) 0) (joined faults)) ≡ faultOf number
 unfolding faultOf faults bytesOf
 fault-cut number le ge = simp (le-ltb number 10 le) (sym (cut-at (joined faults) starts (number - 10) (omega arith)))
 
 -- the words have at most as many bytes as the row
-fault-length : (number : ℕ) → length (faultOf number) ≤ 570
+fault-length : (number : ℕ) → length (faultOf number) ≤ 600
 unfolding faultOf faults bytesOf
 fault-length number = by-number (ltb number 10)
   where
-    by-number : (below : Bool) → length (cond below [] (getD faults (number - 10) [])) ≤ 570
+    by-number : (below : Bool) → length (cond below [] (getD faults (number - 10) [])) ≤ 600
     by-number true = omega arith
     by-number false = word-length faults (number - 10)
 

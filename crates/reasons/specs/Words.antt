@@ -9,7 +9,7 @@ use Rattle.texts.specs.declared.Text.{Text}
 use Rattle.texts.specs.Bytes.{bytesOf, decimal, newline}
 use Rattle.texts.specs.Grown.{lineOf}
 
--- what is wrong, for the refusals 10 to 27 in turn: those of 01's table, and 26 and 27 of document 02 (R-6); no reply has 21 to 25
+-- what is wrong, for the refusals 10 to 36 in turn: those of 01's table, and of document 02 26 and 27 (R-6) and 36 (R-12); no reply has 21 to 25 or 28 to 35
 unfoldable pub faults : List (List ℕ)
 faults =
     bytesOf "the input is longer than 32768 bytes" ∷
@@ -30,6 +30,15 @@ faults =
     [] ∷
     bytesOf "a starting set that is empty" ∷
     bytesOf "a second starting set for its position" ∷
+    [] ∷
+    [] ∷
+    [] ∷
+    [] ∷
+    [] ∷
+    [] ∷
+    [] ∷
+    [] ∷
+    bytesOf "a position that is named twice" ∷
     []
 
 -- what is wrong, by its number; nothing for any other

@@ -7,9 +7,9 @@ ghost use Rattle.reasons.specs.Words.{around, faultOf, placeOf, wordsOf,
 use searching::reply::Reply;
 use texts::Text;
 
-// What is wrong at 10 to 20, 26 and 27, in turn, one behind the other. No reply has 21 to 25, and nothing is
-// said of these.
-const FAULTS: [u8; 570] = *b"\
+// What is wrong at 10 to 20, 26, 27 and 36, in turn, one behind the other. No reply has 21 to 25 or 28 to 35,
+// and nothing is said of these.
+const FAULTS: [u8; 600] = *b"\
     the input is longer than 32768 bytes\
     the answer buffer is shorter than 64 bytes\
     the allowance is above 1000000 splits\
@@ -22,10 +22,11 @@ const FAULTS: [u8; 570] = *b"\
     a position that is 0 or above the number of channels\
     a set with a value above the number of relays\
     a starting set that is empty\
-    a second starting set for its position";
+    a second starting set for its position\
+    a position that is named twice";
 
-// Where each of 10 to 27 begins, and where the last ends.
-const STARTS: [usize; 19] = [
+// Where each of 10 to 36 begins, and where the last ends.
+const STARTS: [usize; 28] = [
     0,
     36,
     78,
@@ -45,6 +46,15 @@ const STARTS: [usize; 19] = [
     504,
     532,
     570,
+    570,
+    570,
+    570,
+    570,
+    570,
+    570,
+    570,
+    570,
+    600,
 ];
 
 // A place with words around it more.
@@ -74,7 +84,7 @@ fn fault(text: Text, number: u32) -> Text
     if number < 10 {
         return text;
     }
-    if 27 < number {
+    if 36 < number {
         return text;
     }
     let at = (number - 10) as usize;

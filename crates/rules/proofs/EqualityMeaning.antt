@@ -3,15 +3,16 @@ use mathlib.Core.Path.{_≡_, refl, subst}
 use mathlib.Core.List.{List, [], _∷_, map, List·Memᴰ}
 use mathlib.Core.Logic.{_↔_, _⊎_, inl, ⊎-elim, ⊎-map, Iff·symm, Iff·trans, Iff·and, and-true}
 use Prim.Native.Nat.{ℕ, _^_, _≤_, _<_}
+use lib.Dec.{leb}
 use Rattle.sets.specs.Sets.{isMember, member, single, values}
 use Rattle.sets.proofs.Members.{member-empty, member-range, member-single}
-use Rattle.lists.proofs.TestLaws.{test-cases}
+use Rattle.lists.proofs.TestLaws.{test-cases, le-holds}
 use Rattle.sets.proofs.Sameness.{no-member-empty}
 use Rattle.sets.proofs.Values.{member-of-listed, listed-of-member}
 use Rattle.lists.specs.Lists.{Some, Every}
-use Rattle.rules.specs.Rules.{Rule, clause, equality, starting}
-use Rattle.rules.specs.Meaning.{valueAt, MeetsAtom, Meets}
-use Rattle.rules.specs.Parts.{Part, oneOf, MeetsPart, atomIn, equalityParts, partsOf}
+use Rattle.rules.specs.Rules.{Rule, clause, equality, starting, atMost}
+use Rattle.rules.specs.Meaning.{valueAt, MeetsAtom, taking, Meets}
+use Rattle.rules.specs.Parts.{Part, oneOf, noMoreThan, MeetsPart, atomIn, equalityParts, partsOf}
 use Rattle.lists.proofs.ListLaws.{some-of-listed, listed-of-some, every-of-listed, every-at, some-listed-twice, some-same, every-same, every-over-append, some-over-map, every-over-map, some-decided, every-decided}
 
 -- some of the positions takes the value x
@@ -77,6 +78,7 @@ abbrev pub MaskFits : Rule → Type 0
 MaskFits (clause atoms) = Unit {0}
 MaskFits (equality m ps) = m < 2 ^ 32
 MaskFits (starting atom) = Unit {0}
+MaskFits (atMost k m ps) = Unit {0}
 
 -- a rule means its parts
 pub rule-means-parts : (a : List ℕ) (r : Rule) → MaskFits r → Meets a r ↔ Every (MeetsPart a) (partsOf r)
@@ -84,6 +86,7 @@ unfolding partsOf
 rule-means-parts a (clause atoms) h = Iff·symm and-true
 rule-means-parts a (equality m ps) h = equality-means-clauses a m ps h
 rule-means-parts a (starting atom) h = (λ t. (inl t, tt), λ met. ⊎-elim (λ t. t) absurd (met .0))
+rule-means-parts a (atMost k m ps) h = Iff·symm and-true
 
 -- an equality of no values over no positions is met
 pub no-positions-empty : (a : List ℕ) → Meets a (equality 0 [])
@@ -107,6 +110,9 @@ empty-clause a s = s
 -- an assignment meets a part or does not
 pub part-decided : (a : List ℕ) (part : Part) → MeetsPart a part ⊎ (MeetsPart a part → ⊥)
 part-decided a (oneOf atoms) = some-decided (MeetsAtom a) (λ atom. test-cases (isMember (valueAt a (atom .position)) (atom .set))) atoms
+part-decided a (noMoreThan k m ps) =
+    let few = le-holds (taking a m ps) k in
+    ⊎-map (few .0) (λ none h. none (few .1 h)) (test-cases (leb (taking a m ps) k))
 
 -- an assignment meets a rule or does not
 pub meets-decided : (a : List ℕ) (r : Rule) → MaskFits r → Meets a r ⊎ (Meets a r → ⊥)

@@ -1,3 +1,4 @@
+pub mod AtMostMeaning
 pub mod DictionaryOrder
 pub mod EqualityMeaning
 pub mod Reading

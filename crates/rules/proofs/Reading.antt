@@ -1,8 +1,10 @@
+pub mod AtMostExamples
 pub mod ByteLaws
 pub mod ContentLaws
 pub mod FaultlessLaws
 pub mod FieldByField
 pub mod FieldsStand
+pub mod NamedLaws
 pub mod RefusalLaws
 pub mod WalkLaws
 pub mod StartExamples

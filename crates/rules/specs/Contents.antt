@@ -5,7 +5,7 @@ use mathlib.Core.List.{List}
 use lib.ListN.{length, take, drop}
 use Rattle.rules.specs.declared.field.Atom.{Atom}
 use Rattle.rules.specs.declared.field.Tag.{Tag}
-use Rattle.rules.specs.declared.field.Tag.the-variants.{Header, Clause, Equality, Starting, Unknown}
+use Rattle.rules.specs.declared.field.Tag.the-variants.{Header, Clause, Equality, Starting, AtMost, Unknown}
 use Rattle.lists.specs.Lists.{Every}
 use Rattle.rules.specs.Reading.{atomsOf}
 use Rattle.rules.specs.Writing.{PositionFits}
@@ -37,4 +37,5 @@ ContentFits Header v len content = ⊥
 ContentFits Clause v len content = Atoms v len content
 ContentFits Equality v len content = (4 ≤ len) × Positions v (len - 4) (drop 4 content)
 ContentFits Starting v len content = (len ≡ 5) × Atoms v len content
+ContentFits AtMost v len content = (5 ≤ len) × Positions v (len - 5) (drop 5 content)
 ContentFits Unknown v len content = ⊥

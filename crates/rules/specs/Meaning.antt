@@ -4,10 +4,11 @@ use mathlib.Core.Path.{_≡_}
 use mathlib.Core.List.{List, [], _∷_}
 use mathlib.Core.Logic.{_↔_, _⊎_}
 use lib.ListN.{length, getD}
-use Rattle.sets.specs.Sets.{member}
+use Rattle.sets.specs.Sets.{isMember, member}
 use Rattle.rules.specs.declared.field.Atom.{Atom}
 use Rattle.lists.specs.Lists.{Some, Every}
-use Rattle.rules.specs.Rules.{Rule, Field, File, clause, equality, starting}
+use Rattle.lists.specs.Passing.{passing}
+use Rattle.rules.specs.Rules.{Rule, Field, File, clause, equality, starting, atMost}
 
 -- an assignment of v positions: the values of positions 1 to v in turn, each from 1 to n
 abbrev pub Assignment : ℕ → ℕ → List ℕ → Type 0
@@ -21,11 +22,17 @@ valueAt a p = getD a (p - 1) 0
 abbrev pub MeetsAtom : List ℕ → Atom → Type 0
 MeetsAtom a atom = member (valueAt a (atom .position)) (atom .set)
 
--- a clause is met if some atom is; an equality if the values taken by the named positions are exactly those of M; a starting set if its position has a value in it
+-- how many of the positions take a value in the set
+abbrev pub taking : List ℕ → ℕ → List ℕ → ℕ
+taking a m ps = passing (λ p. isMember (valueAt a p) m) ps
+
+-- a clause is met if some atom is; an equality if the values taken by the named positions are exactly those of M; a starting set if its position has a value in it; an
+-- at-most rule if no more than k of the named positions take a value in the set
 abbrev pub Meets : List ℕ → Rule → Type 0
 Meets a (clause atoms) = Some (MeetsAtom a) atoms
 Meets a (equality m ps) = (x : ℕ) → member x m ↔ Some (λ p. valueAt a p ≡ x) ps
 Meets a (starting atom) = MeetsAtom a atom
+Meets a (atMost k m ps) = taking a m ps ≤ k
 
 -- the assignment meets every rule
 abbrev pub MeetsAll : List ℕ → List Rule → Type 0

@@ -1,15 +1,15 @@
 -- Reading: from the bytes of a file to its rules, or to a refusal with its number and place. The contracts of `src/` cite these. Assumes nothing.
 use Prim.Native.Nat.{ℕ, zero, suc, _+_, _-_, _*_, _/_, _%_, _^_}
-use mathlib.Core.Bool.{Bool, true, false, not, _&&_}
+use mathlib.Core.Bool.{Bool, true, false, not, _&&_, _||_}
 use mathlib.Core.List.{List, [], _∷_}
 use lib.Dec.{leb, ltb, eqb}
 use lib.ListN.{length, getD, take, drop}
 use Rattle.sets.specs.Sets.{isMember, union, full, inside, isEmpty}
 use Rattle.rules.specs.declared.field.Tag.{Tag}
-use Rattle.rules.specs.declared.field.Tag.the-variants.{Header, Clause, Equality, Starting, Unknown}
+use Rattle.rules.specs.declared.field.Tag.the-variants.{Header, Clause, Equality, Starting, AtMost, Unknown}
 use Rattle.rules.specs.declared.field.Atom.{Atom}
 use Rattle.rules.specs.declared.field.Head.{Head}
-use Rattle.rules.specs.Rules.{Rule, File, clause, equality, starting}
+use Rattle.rules.specs.Rules.{Rule, File, clause, equality, starting, atMost}
 
 -- ---- what the bytes of a field say
 
@@ -20,7 +20,7 @@ pickTag false a b = b
 
 -- the kind of field that a tag byte announces
 unfoldable pub tagOf : ℕ → Tag
-tagOf tag = pickTag (eqb tag 1) Header (pickTag (eqb tag 2) Clause (pickTag (eqb tag 3) Equality (pickTag (eqb tag 4) Starting Unknown)))
+tagOf tag = pickTag (eqb tag 1) Header (pickTag (eqb tag 2) Clause (pickTag (eqb tag 3) Equality (pickTag (eqb tag 4) Starting (pickTag (eqb tag 5) AtMost Unknown))))
 
 -- two bytes from `at` on as a number, high byte first
 unfoldable pub lengthAt : List ℕ → ℕ → ℕ
@@ -53,6 +53,7 @@ ruleOf Header len bytes = clause []
 ruleOf Clause len bytes = clause (atomsOf (len / 5) bytes)
 ruleOf Equality len bytes = equality (setAt bytes 0) (take (len - 4) (drop 4 bytes))
 ruleOf Starting len bytes = starting (atomOf bytes)
+ruleOf AtMost len bytes = atMost (getD bytes 0 0) (setAt bytes 1) (take (len - 5) (drop 5 bytes))
 ruleOf Unknown len bytes = clause []
 
 -- whether a field of a kind may have so many bytes of content
@@ -61,6 +62,7 @@ lengthFits Header len = eqb len 2
 lengthFits Clause len = eqb (len % 5) 0
 lengthFits Equality len = leb 4 len && leb len 68
 lengthFits Starting len = eqb len 5
+lengthFits AtMost len = leb 5 len && leb len 69
 lengthFits Unknown len = false
 
 -- ---- faults: 01's number of the first that is found, and 0 where there is none
@@ -101,11 +103,26 @@ positionsFault v (p ∷ ps) = orElse (positionFault v p) (positionsFault v ps)
 unfoldable pub emptyFault : ℕ → ℕ
 emptyFault m = faultIf (isEmpty m) 26 λ _. 0
 
--- the contents from left to right; in an equality 20 before 19, and of a starting set 26 last
+-- whether a position is one of some
+unfoldable pub named : ℕ → List ℕ → Bool
+named p [] = false
+named p (q ∷ qs) = eqb q p || named p qs
+
+-- whether one of the positions is named twice
+unfoldable pub namedTwice : List ℕ → Bool
+namedTwice [] = false
+namedTwice (p ∷ ps) = named p ps || namedTwice ps
+
+-- 36: a position named twice
+unfoldable pub twiceFault : List ℕ → ℕ
+twiceFault ps = faultIf (namedTwice ps) 36 λ _. 0
+
+-- the contents from left to right; in an equality 20 before 19, of a starting set 26 last, and of an at-most field 20, then 19 of every position, then 36
 unfoldable pub ruleFault : ℕ → ℕ → Rule → ℕ
 ruleFault v n (clause atoms) = atomsFault v n atoms
 ruleFault v n (equality m ps) = orElse (setFault n m) (positionsFault v ps)
 ruleFault v n (starting a) = orElse (atomFault v n a) (emptyFault (a .set))
+ruleFault v n (atMost k m ps) = orElse (setFault n m) (orElse (positionsFault v ps) (twiceFault ps))
 
 -- the rule that a field's bytes hold
 unfoldable pub ruleAt : List ℕ → Rule
@@ -117,6 +134,7 @@ tagFault Header = 15
 tagFault Clause = 0
 tagFault Equality = 0
 tagFault Starting = 0
+tagFault AtMost = 0
 tagFault Unknown = 16
 
 -- what stands behind the tag: the length (17), bytes missing (13), the content
@@ -163,12 +181,14 @@ unfoldable pub seenWith : Rule → ℕ → ℕ
 seenWith (clause atoms) seen = seen
 seenWith (equality m ps) seen = seen
 seenWith (starting a) seen = withPosition (a .position) seen
+seenWith (atMost k m ps) seen = seen
 
 -- 27: a second starting set for a position, whatever it is
 unfoldable pub againFault : ℕ → Rule → ℕ
 againFault seen (clause atoms) = 0
 againFault seen (equality m ps) = 0
 againFault seen (starting a) = faultIf (isMember (a .position) seen) 27 λ _. 0
+againFault seen (atMost k m ps) = 0
 
 -- the first fault of a field where these positions have a starting set: 27 after every other
 unfoldable pub faultAfter : ℕ → ℕ → ℕ → List ℕ → ℕ

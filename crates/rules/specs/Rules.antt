@@ -3,11 +3,13 @@ use Prim.Native.Nat.{ℕ}
 use mathlib.Core.List.{List}
 use Rattle.rules.specs.declared.field.Atom.{Atom}
 
--- a rule: a clause of atoms; a set M that the values of some positions must make up exactly; or a position and its starting set
+-- a rule: a clause of atoms; a set M that the values of some positions must make up exactly; a position and its starting set; or a count k, a set and positions, of
+-- which at most k take a value in the set
 pub data Rule : Type 0 where
   clause : List Atom → Rule
   equality : ℕ → List ℕ → Rule
   starting : Atom → Rule
+  atMost : ℕ → ℕ → List ℕ → Rule
 
 -- v positions, each with a value from 1 to n, and the rules in the order of the file
 pub record File : Type 0 where

@@ -3,7 +3,7 @@ use Prim.Native.Nat.{ℕ}
 use mathlib.Core.Bool.{cond}
 use mathlib.Core.List.{List, [], _∷_, _++_, map}
 use lib.Dec.{ltb}
-use Rattle.rules.specs.Rules.{Rule, Field, File, clause, equality, starting}
+use Rattle.rules.specs.Rules.{Rule, Field, File, clause, equality, starting, atMost}
 use Rattle.rules.specs.Writing.{fieldsOf}
 
 -- of fields in file order, those up to the last that stands at the place or before it
@@ -26,6 +26,7 @@ onlyStarts [] = []
 onlyStarts (clause atoms ∷ rules) = onlyStarts rules
 onlyStarts (equality m ps ∷ rules) = onlyStarts rules
 onlyStarts (starting a ∷ rules) = starting a ∷ onlyStarts rules
+onlyStarts (atMost k m ps ∷ rules) = onlyStarts rules
 
 -- the file with the rules of the fields up to the place, and the starting sets behind it: these count from the start, wherever they stand
 unfoldable pub upTo : ℕ → File → File

@@ -7,8 +7,8 @@ use lib.ListN.{length}
 use Rattle.sets.specs.Sets.{member, full, inside}
 use Rattle.rules.specs.declared.field.Atom.{Atom}
 use Rattle.lists.specs.Lists.{Every}
-use Rattle.rules.specs.Rules.{Rule, Field, File, clause, equality, starting}
-use Rattle.rules.specs.Reading.{seenWith}
+use Rattle.rules.specs.Rules.{Rule, Field, File, clause, equality, starting, atMost}
+use Rattle.rules.specs.Reading.{namedTwice, seenWith}
 
 -- a length as two bytes, high byte first
 unfoldable pub twoBytes : ℕ → List ℕ
@@ -32,12 +32,14 @@ unfoldable pub tagByte : Rule → ℕ
 tagByte (clause atoms) = 2
 tagByte (equality m ps) = 3
 tagByte (starting a) = 4
+tagByte (atMost k m ps) = 5
 
 -- the content of a rule's field
 unfoldable pub contentBytes : Rule → List ℕ
 contentBytes (clause atoms) = writtenAtoms atoms
 contentBytes (equality m ps) = fourBytes m ++ ps
 contentBytes (starting a) = writtenAtoms (a ∷ [])
+contentBytes (atMost k m ps) = k ∷ fourBytes m ++ ps
 
 -- a rule's field
 unfoldable pub writtenRule : Rule → List ℕ
@@ -77,17 +79,20 @@ SetFits n m = T (inside m (full n))
 abbrev pub AtomFits : ℕ → ℕ → Atom → Type 0
 AtomFits v n a = PositionFits v (a .position) × SetFits n (a .set)
 
--- positions are 1 to v, sets lie within {1..n}, a starting set has a value, and the length fits two bytes, in an equality 4 to 68
+-- positions are 1 to v, sets lie within {1..n}, a starting set has a value, the length fits two bytes, in an equality 4 to 68, and in an at-most rule
+-- 5 to 69, the count is a byte and no position is named twice
 abbrev pub RuleFits : ℕ → ℕ → Rule → Type 0
 RuleFits v n (clause atoms) = (length atoms * 5 < 65536) × Every (AtomFits v n) atoms
 RuleFits v n (equality m ps) = (length ps ≤ 64) × SetFits n m × Every (PositionFits v) ps
 RuleFits v n (starting a) = AtomFits v n a × (a .set ≡ 0 → ⊥)
+RuleFits v n (atMost k m ps) = (k < 256) × (length ps ≤ 64) × SetFits n m × Every (PositionFits v) ps × (T (namedTwice ps) → ⊥)
 
 -- the rule is no starting set of a position seen
 abbrev pub Unseen : ℕ → Rule → Type 0
 Unseen seen (clause atoms) = Unit {0}
 Unseen seen (equality m ps) = Unit {0}
 Unseen seen (starting a) = member (a .position) seen → ⊥
+Unseen seen (atMost k m ps) = Unit {0}
 
 -- no position has two starting sets, and none of those seen has one more
 abbrev pub OneStart : ℕ → List Rule → Type 0

@@ -12,6 +12,7 @@ pub enum Tag {
     Clause,
     Equality,
     Starting,
+    AtMost,
     Unknown,
 }
 
@@ -27,7 +28,7 @@ pub struct Head {
     pub length: usize,
 }
 
-// The decision over the tag byte. Tags 1 to 4 are known.
+// The decision over the tag byte. Tags 1 to 5 are known.
 pub fn tag_of(tag: u8) -> Tag
     ensures { λ r. ⌜ TagOf tag r ⌝ }
 {
@@ -36,7 +37,8 @@ pub fn tag_of(tag: u8) -> Tag
         2 => Tag::Clause,
         3 => Tag::Equality,
         4 => Tag::Starting,
-        0 | 5..=255 => Tag::Unknown,
+        5 => Tag::AtMost,
+        0 | 6..=255 => Tag::Unknown,
     }
 }
 

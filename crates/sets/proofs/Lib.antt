@@ -1,5 +1,6 @@
 pub mod Digits
 pub mod Members
+pub mod Outside
 pub mod Sameness
 pub mod Shifts
 pub mod Values

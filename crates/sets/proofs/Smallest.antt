@@ -10,11 +10,11 @@ use native.Mathlib.Numerals.{lt-of-le-of-ne}
 use native.Mathlib.Omega.{arith}
 use lib.Arith.{lt-one}
 use lib.Count.{trailingZeros, under}
-use lib.Dec.{T, T-not, not-T}
-use Rattle.sets.specs.Sets.{member, single, common, complement, isEmpty, inside, listedIf, valuesFrom, values, rising, count, firstOf, smallest, beside, others}
+use lib.Dec.{T}
+use Rattle.sets.specs.Sets.{member, single, common, complement, inside, listedIf, valuesFrom, values, rising, count, firstOf, smallest, beside, others}
 use Rattle.sets.proofs.Digits.{half-below}
-use Rattle.sets.proofs.Members.{member-range, member-empty, member-common, member-single}
-use Rattle.sets.proofs.Sameness.{single-below, empty-test, inside-iff}
+use Rattle.sets.proofs.Members.{member-range, member-empty, member-single}
+use Rattle.sets.proofs.Sameness.{single-below, inside-iff}
 use Rattle.sets.proofs.Values.{values-step, member-of-listed, listed-of-member, values-rising, rising-above}
 use Rattle.sets.proofs.Counting.{beside-below, member-beside, count-not-empty, count-of-single, count-zero, count-positive, count-falls, count-part}
 
@@ -213,21 +213,6 @@ unfolding values valuesFrom
 values-of-empty = refl
 
 -- ---- two sets that share a value
-
--- the common part of two sets is not empty exactly if they share a value
-pub common-shared : (a b : ℕ) → common a b < 2 ^ 32 → T (not (isEmpty (common a b))) ↔ ((x : ℕ) × member x a × member x b)
-common-shared a b h = (forth, back)
-  where
-    both : ℕ
-    both = common a b
-
-    forth : T (not (isEmpty both)) → (x : ℕ) × member x a × member x b
-    forth t =
-        let least = member-common (smallest both) a b .0 (smallest-member both h (λ e. T-not (isEmpty both) t (empty-test both .1 e))) in
-        (smallest both, least .0, least .1)
-
-    back : (x : ℕ) × member x a × member x b → T (not (isEmpty both))
-    back (x, t, u) = not-T (isEmpty both) (λ e. member-empty x (subst (λ (m : ℕ). member x m) (empty-test both .0 e) (member-common x a b .1 (t, u))))
 
 -- a set that shares a value with another and does not lie inside it has two or more values
 pub partly-inside-two : (a b x : ℕ) → a < 2 ^ 32 → member x a → member x b → (T (inside a b) → ⊥) → 2 ≤ count a

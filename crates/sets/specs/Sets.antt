@@ -1,6 +1,6 @@
 -- Sets of values as numbers: what the contracts of `src/lib.rt` and every crate above mean by a set, its members and each operation. Assumes nothing.
 use Prim.Native.Nat.{ℕ, zero, suc, _-_, _/_, _%_, _^_, _<_}
-use mathlib.Core.Bool.{Bool, true, false, _&&_}
+use mathlib.Core.Bool.{Bool, true, false, not, _&&_}
 use mathlib.Core.List.{List, [], _∷_}
 use lib.Bits.{bitAnd, bitOr, bitXor}
 use lib.Dec.{T, eqb, leb}
@@ -62,6 +62,10 @@ isEmpty m = eqb m 0
 -- whether every value of a is in b: the common part is the whole of a
 unfoldable pub inside : ℕ → ℕ → Bool
 inside a b = eqb (common a b) a
+
+-- whether a and b have a value in common
+abbrev pub meets : ℕ → ℕ → Bool
+meets a b = not (isEmpty (common a b))
 
 -- the value x in front of the others where its digit is not 0
 unfoldable pub listedIf : ℕ → ℕ → List ℕ → List ℕ

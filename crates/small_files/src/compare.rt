@@ -8,10 +8,10 @@ use super::meaning::Found;
 use super::meaning::assignments;
 use super::meaning::first;
 use super::meaning::meets;
+use super::reading::byte;
 use super::reading::is_rule;
 use super::reading::positions;
 use super::reading::sound;
-use super::reading::values;
 use super::special::is_claimed;
 use super::special::is_special;
 use super::starting::most_rounds;
@@ -40,8 +40,8 @@ fn is_plan(seen: Seen, assignment: &[u8; 68]) -> bool {
     is(seen, 0, 0, assignment) && seen.dead_ends <= seen.splits
 }
 
-// Whether a NONE to a file has its place: with no split that of a clause or an equality, and else 0 (02,
-// R-3; a starting set is never dead, R-6). Which field it is, is in the checksum.
+// Whether a NONE to a file has its place: with no split that of a clause, an equality or an at-most rule, and
+// else 0 (02, R-3; a starting set is never dead, R-6). Which field it is, is in the checksum.
 fn has_place(seen: Seen, file: &[u8]) -> bool {
     if seen.splits == 0 {
         is_rule(file, seen.place)
@@ -82,22 +82,15 @@ pub(crate) fn agree(a: Seen, b: Seen) -> bool {
         && a.rounds == b.rounds
 }
 
-// Whether a number is that of a refusal of a file: 13 to 20, and 26 and 27 of starting sets.
-fn is_fault_number(number: usize) -> bool {
+// Whether the reply is a refusal of a file, 13 to 20, 26 and 27 of starting sets or 36 of at-most rules, with a
+// place in a file of a length and with nothing counted and nothing written.
+fn is_fault(seen: Seen, length: usize) -> bool {
+    let number = seen.number;
+    let left = seen.bytes;
     match number {
-        13..=20 | 26 | 27 => true,
+        13..=20 | 26 | 27 | 36 => seen.place <= length && no_counts(seen) && same(&left, &blank()),
         _ => false,
     }
-}
-
-// Whether the reply is a refusal of a file, with a place in a file of a length and with nothing counted
-// and nothing written.
-fn is_fault(seen: Seen, length: usize) -> bool {
-    if !is_fault_number(seen.number) {
-        return false;
-    }
-    let left = seen.bytes;
-    seen.place <= length && no_counts(seen) && same(&left, &blank())
 }
 
 // Compares the reply to a file that is not sound: a refusal. The most rounds of such a file are 0.
@@ -187,7 +180,7 @@ pub(crate) fn judge(tally: Tally, file: &[u8]) -> Tally {
 // Compares the reply to a sound file.
 pub(crate) fn judge_sound(tally: Tally, file: &[u8]) -> Tally {
     let v = positions(file);
-    let n = values(file);
+    let n = byte(file, 4);
     let sets = starting_sets(file, v, n);
     let compared = if assignments(&sets, v) <= 4096 {
         enumerated(tally, file, &sets, v, n)

@@ -30,7 +30,7 @@ fn damaged_at(tally: Tally, state: &mut usize, file: &mut [u8], place: usize) ->
 {
     let cut = try_damaged(tally, &file[..place]);
     let changed = with_changes(cut, state, file, place);
-    let tried = with_four_and_zero(changed, file, place);
+    let tried = with_tags_and_zero(changed, file, place);
     with_more(tried, state, file, place)
 }
 
@@ -50,12 +50,13 @@ fn with_changes(tally: Tally, state: &mut usize, file: &mut [u8], place: usize) 
     with_byte(first, file, place, another)
 }
 
-// Changes the byte at a place to 4, the tag of a starting set, and to 0.
-fn with_four_and_zero(tally: Tally, file: &mut [u8], place: usize) -> Tally
+// Changes the byte at a place to 4 and to 5, the tags of a starting set and of an at-most rule, and to 0.
+fn with_tags_and_zero(tally: Tally, file: &mut [u8], place: usize) -> Tally
     requires { ⌜ place < length (now file) ⌝ }
 {
     let four = with_byte(tally, file, place, 4);
-    with_byte(four, file, place, 0)
+    let five = with_byte(four, file, place, 5);
+    with_byte(five, file, place, 0)
 }
 
 // Tries a file with another byte at a place, and puts the old one back.
@@ -69,11 +70,11 @@ fn with_byte(tally: Tally, file: &mut [u8], place: usize, another: u8) -> Tally
     tried
 }
 
-// Adds a byte from 0 to 5 before a place, or at the end.
+// Adds a byte from 0 to 6 before a place, or at the end.
 fn with_more(tally: Tally, state: &mut usize, file: &[u8], place: usize) -> Tally {
     let mut space = [0u8; 256];
     let longer: &mut [u8] = &mut space;
-    let added = draw(state, 6);
+    let added = draw(state, 7);
     add_byte(longer, file, place, added);
     if file.len() < 256 {
         return try_front(tally, longer, file.len() + 1);
@@ -112,19 +113,24 @@ fn with_copies(whole: Tally, file: &[u8]) -> Tally {
 
 // Tries a file with a field of it once more at the end, as far as it fits: as it is, which doubles a
 // starting set; with 0 as its last byte, which may leave a set empty; with 255 there, which may be above n or
-// v; and with 0 as the first byte of its content too.
+// v; with the byte before it there, which may name a position twice; and with 0 as the first byte of its
+// content too.
 fn with_copy(tally: Tally, file: &[u8], field: &[u8]) -> Tally {
     let mut space = [0u8; 256];
     let longer: &mut [u8] = &mut space;
     let len = copy(longer, 0, file);
     let end = copy(longer, len, field);
+    let last = std::num::wrapping_sub_usize(end, 1);
     let first = try_front(tally, longer, end);
-    put_last(longer, end, 0);
+    put(longer, last, 0);
     let second = try_front(first, longer, end);
-    put_last(longer, end, 255);
+    put(longer, last, 255);
     let third = try_front(second, longer, end);
+    let before = byte(longer, std::num::wrapping_sub_usize(end, 2));
+    put(longer, last, before);
+    let fourth = try_front(third, longer, end);
     put(longer, std::num::wrapping_add_usize(len, 3), 0);
-    try_front(third, longer, end)
+    try_front(fourth, longer, end)
 }
 
 // Writes some bytes at a place, as far as they fit, and answers the place behind them.
@@ -134,11 +140,4 @@ fn copy(longer: &mut [u8], at: usize, bytes: &[u8]) -> usize {
         end = put(longer, end, byte(bytes, i));
     }
     end
-}
-
-// Writes a byte before a place.
-fn put_last(longer: &mut [u8], end: usize, byte: usize) {
-    if 0 < end {
-        put(longer, end - 1, byte);
-    }
 }

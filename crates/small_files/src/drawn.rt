@@ -4,6 +4,7 @@ ghost use lib.ListN.{length};
 use super::buffer::wide;
 use super::chance::draw;
 use super::chance::one_in_four;
+use super::digits::last;
 use super::reading::start_of;
 use super::starting::one_if;
 use super::writing::close;
@@ -12,15 +13,16 @@ use super::writing::item;
 use super::writing::start;
 
 // What files are drawn: the numbers of positions and of values, how many fields there are at most,
-// how many of eight fields are equalities and how many are starting sets, how many atoms a clause has at
-// least, and in how many of four draws a value is put into a set, a value is put into a starting set, and
-// a set is near {1..b}.
+// how many of eight fields are equalities, how many are starting sets and how many are at-most rules, how
+// many atoms a clause has at least, and in how many of four draws a value is put into a set, a value is put
+// into a starting set, and a set is near {1..b}.
 pub struct Shape {
     pub v: u8,
     pub n: u8,
     pub fields: u8,
     pub equalities: u8,
     pub starts: u8,
+    pub at_mosts: u8,
     pub atoms: u8,
     pub density: u8,
     pub fitted: u8,
@@ -45,6 +47,7 @@ fn sized(state: &mut usize, least_v: u8, more_v: u8, least_n: u8, more_n: u8) ->
         fields: 0,
         equalities: 0,
         starts: 0,
+        at_mosts: 0,
         atoms: 1,
         density: 2,
         fitted: 2,
@@ -93,6 +96,7 @@ fn large(state: &mut usize) -> Shape {
         fields: FIELDS[row],
         equalities: 2,
         starts: 0,
+        at_mosts: 0,
         atoms: 2,
         density,
         fitted: 2,
@@ -130,16 +134,37 @@ fn sparse(state: &mut usize) -> Shape {
     shape
 }
 
+// A file of at-most rules and clauses.
+fn at_mosts(state: &mut usize) -> Shape {
+    let mut shape = sized(state, 3, 4, 2, 3);
+    shape.fields = 6;
+    shape.at_mosts = 5;
+    shape.atoms = 2;
+    shape
+}
+
+// A file of all kinds of fields, with starting sets and at-most rules.
+fn mixed(state: &mut usize) -> Shape {
+    let mut shape = sized(state, 1, 4, 2, 5);
+    shape.fields = 8;
+    shape.equalities = 1;
+    shape.starts = 2;
+    shape.at_mosts = 2;
+    shape
+}
+
 // What file of a family comes next.
 fn shape_of(state: &mut usize, family: usize) -> Shape {
     match family {
-        8 => small(state),
-        9 => clauses(state),
-        10 => equalities(state),
-        11 => large(state),
-        12 => started(state),
-        13 => laddered(state),
-        _ => sparse(state),
+        12 => small(state),
+        13 => clauses(state),
+        14 => equalities(state),
+        15 => large(state),
+        16 => started(state),
+        17 => laddered(state),
+        18 => sparse(state),
+        19 => at_mosts(state),
+        _ => mixed(state),
     }
 }
 
@@ -157,16 +182,16 @@ pub(crate) fn write(file: &mut [u8], state: &mut usize, family: usize) -> usize
     at
 }
 
-// Writes a starting set, an equality or a clause.
+// Writes a starting set, an at-most rule, an equality or a clause.
 fn write_field(file: &mut [u8], at: usize, state: &mut usize, shape: Shape) -> usize
     requires { ⌜ at ≤ length (now file) ⌝ }
     ensures { λ r. ⌜ r ≤ length (now (file .entry)) ⌝ }
 {
     let tag = tag_of(state, shape);
-    if tag == 4 {
-        write_start(file, at, state, shape)
-    } else {
-        write_items(file, at, state, shape, tag)
+    match tag {
+        4 => write_start(file, at, state, shape),
+        5 => write_at_most(file, at, state, shape),
+        _ => write_items(file, at, state, shape, tag),
     }
 }
 
@@ -176,14 +201,43 @@ fn write_start(file: &mut [u8], at: usize, state: &mut usize, shape: Shape) -> u
     ensures { λ r. ⌜ r ≤ length (now (file .entry)) ⌝ }
 {
     let position = draw(state, wide(shape.v)) + 1;
-    let values = fitted(state, wide(shape.n), wide(shape.fitted));
+    let sure = draw(state, wide(shape.n)) + 1;
+    let values = values(state, wide(shape.n), wide(shape.fitted), sure);
     if start_of(&file[..at], position) != 0 {
         return at;
     }
-    let end = start(file, at, 4, 0);
+    let end = start(file, at, 4, 0, 0);
     let end = item(file, end, 4, position, values);
     close(file, at, end);
     end
+}
+
+// Writes an at-most rule: a count from 0 to 3, a set, and the positions in turn from one that is drawn on, each in
+// three of four draws.
+fn write_at_most(file: &mut [u8], at: usize, state: &mut usize, shape: Shape) -> usize
+    ensures { λ r. ⌜ r ≤ length (now (file .entry)) ⌝ }
+{
+    let v = wide(shape.v);
+    let values = values_if(state, shape, true);
+    let count = draw(state, 4);
+    let first = draw(state, v);
+    let mut end = start(file, at, 5, count, values);
+    for i in 0..v {
+        end = position_or_none(file, end, state, last(first + i, v) + 1);
+    }
+    close(file, at, end);
+    end
+}
+
+// Writes a position of an at-most rule in three of four draws.
+fn position_or_none(file: &mut [u8], at: usize, state: &mut usize, position: usize) -> usize
+    requires { ⌜ at ≤ length (now file) ⌝ }
+    ensures { λ r. ⌜ r ≤ length (now (file .entry)) ⌝ }
+{
+    if one_in_four(state, 3) == 0 {
+        return at;
+    }
+    item(file, at, 5, position, 0)
 }
 
 // Writes an equality or a clause.
@@ -192,7 +246,7 @@ fn write_items(file: &mut [u8], at: usize, state: &mut usize, shape: Shape, tag:
 {
     let values = values_if(state, shape, tag == 3);
     let mut left = items(state, shape, tag);
-    let mut end = start(file, at, tag, values);
+    let mut end = start(file, at, tag, 0, values);
     while left > 0 {
         left -= 1;
         end = write_item(file, end, state, shape, tag);
@@ -201,14 +255,19 @@ fn write_items(file: &mut [u8], at: usize, state: &mut usize, shape: Shape, tag:
     end
 }
 
-// The tag of an equality, of a starting set or of a clause.
+// The tag of an equality, of a starting set, of an at-most rule or of a clause.
 fn tag_of(state: &mut usize, shape: Shape) -> usize {
     let kind = draw(state, 8);
-    if kind < wide(shape.equalities) {
+    let equalities = wide(shape.equalities);
+    let starts = equalities + wide(shape.starts);
+    if kind < equalities {
         return 3;
     }
-    if kind < wide(shape.equalities) + wide(shape.starts) {
-        4
+    if kind < starts {
+        return 4;
+    }
+    if kind < starts + wide(shape.at_mosts) {
+        5
     } else {
         2
     }
@@ -244,24 +303,12 @@ fn values_if(state: &mut usize, shape: Shape, wanted: bool) -> usize {
     if one_in_four(state, wide(shape.ladders)) == 1 {
         ladder(state, n)
     } else {
-        values(state, n, wide(shape.density))
+        values(state, n, wide(shape.density), 0)
     }
 }
 
-// A set of values from 1 to n.
-fn values(state: &mut usize, n: usize, density: usize) -> usize {
-    let mut mask = 0;
-    let mut left = n;
-    while left > 0 {
-        left -= 1;
-        mask = mask % 2147483648 * 2 + one_in_four(state, density);
-    }
-    mask
-}
-
-// A set of one value at least from 1 to n, where n is not 0: a value that is drawn for it, and others.
-fn fitted(state: &mut usize, n: usize, density: usize) -> usize {
-    let sure = draw(state, n) + 1;
+// A set of values from 1 to n: one that is sure, where that is not 0, and others.
+fn values(state: &mut usize, n: usize, density: usize, sure: usize) -> usize {
     let mut mask = 0;
     let mut left = n;
     while left > 0 {

@@ -1,6 +1,6 @@
 // The first assignment that meets all rules of a sound file, found by going through all assignments
-// inside its starting sets in dictionary order. Written from 01's section "What rules mean" and 02's R-6
-// alone; nothing of the planner is used.
+// inside its starting sets in dictionary order. Written from 01's section "What rules mean" and 02's R-6 and
+// R-12 alone; nothing of the planner is used.
 ghost use Prim.Native.Nat.{_≤_};
 use super::buffer::blank;
 use super::buffer::wide;
@@ -9,6 +9,7 @@ use super::reading::byte;
 use super::reading::contains;
 use super::reading::next_field;
 use super::starting::next_value;
+use super::starting::one_if;
 
 // The value of a position, and 0 where there is no such position.
 fn value_of(assignment: &[u8; 68], position: usize) -> usize {
@@ -66,16 +67,31 @@ fn equality_met(content: &[u8], assignment: &[u8; 68], n: usize) -> bool {
     true
 }
 
+// Whether no more of an at-most rule's positions take a value in its set than its count says.
+fn at_most_met(content: &[u8], assignment: &[u8; 68]) -> bool {
+    if content.len() < 1 {
+        return false;
+    }
+    let set = &content[1..];
+    let mut count = 0;
+    let mut i = 5;
+    while i < content.len() {
+        count += one_if(contains(set, value_of(assignment, byte(content, i))));
+        i += 1;
+    }
+    count <= byte(content, 0)
+}
+
 // Whether an assignment meets the rule of one field. A starting set is met as a clause of one atom is.
 fn field_met(field: &[u8], assignment: &[u8; 68], n: usize) -> bool {
     if field.len() < 3 {
         return false;
     }
     let content = &field[3..];
-    if byte(field, 0) == 3 {
-        equality_met(content, assignment, n)
-    } else {
-        clause_met(content, assignment)
+    match byte(field, 0) {
+        3 => equality_met(content, assignment, n),
+        5 => at_most_met(content, assignment),
+        _ => clause_met(content, assignment),
     }
 }
 

@@ -1,5 +1,5 @@
 // A little reader of rule files, and a test whether a file is sound, written from 01's section "The
-// rule file" and from 02's R-6.
+// rule file" and from 02's R-6 and R-12.
 ghost use Prim.Native.Nat.{_≤_, _<_};
 ghost use lib.ListN.{length};
 use super::buffer::wide;
@@ -17,13 +17,6 @@ pub(crate) fn positions(file: &[u8]) -> usize
 {
     let v = byte(file, 3);
     if 64 < v { 64 } else { v }
-}
-
-// The number of values that a header names.
-pub(crate) fn values(file: &[u8]) -> usize
-    ensures { λ r. ⌜ r < 256 ⌝ }
-{
-    byte(file, 4)
 }
 
 // The length that a field's head names.
@@ -45,7 +38,8 @@ pub(crate) fn next_field(file: &[u8], at: usize) -> usize
     at + size
 }
 
-// Whether a clause or an equality starts at a place behind the header. A starting set is neither.
+// Whether a clause, an equality or an at-most rule starts at a place behind the header. A starting set is none
+// of these.
 pub(crate) fn is_rule(file: &[u8], place: usize) -> bool {
     let mut at = 5;
     while at < file.len() {
@@ -157,6 +151,28 @@ fn equality_sound(content: &[u8], v: usize, n: usize) -> bool {
     content.len() <= 68 && set_fits(content, n) && positions_fit(&content[4..], v)
 }
 
+// Whether no byte stands twice.
+fn all_differ(bytes: &[u8]) -> bool {
+    let mut seen = [0u8; 256];
+    for i in 0..bytes.len() {
+        let at = wide(bytes[i]);
+        if seen[at] == 1 {
+            return false;
+        }
+        seen[at] = 1;
+    }
+    true
+}
+
+// Whether the content of an at-most rule is sound: a count, and behind it a set and positions as in an
+// equality, but no position twice.
+fn at_most_sound(content: &[u8], v: usize, n: usize) -> bool {
+    if content.len() < 5 {
+        return false;
+    }
+    equality_sound(&content[1..], v, n) && all_differ(&content[5..])
+}
+
 // Whether the content of a starting set is sound but for others of its position: a position and a set that
 // is not empty.
 fn start_sound(content: &[u8], v: usize, n: usize) -> bool {
@@ -181,6 +197,7 @@ fn field_sound(rest: &[u8], v: usize, n: usize) -> bool {
         2 => length % 5 == 0 && atoms_fit(content, v, n),
         3 => equality_sound(content, v, n),
         4 => start_sound(content, v, n),
+        5 => at_most_sound(content, v, n),
         _ => false,
     }
 }
@@ -207,8 +224,8 @@ fn fields_sound(file: &[u8], v: usize, n: usize) -> bool {
 }
 
 // Whether a file is sound: a header of 1 to 64 positions and 1 to 32 values, and behind it only
-// clauses, equalities and starting sets, all of them whole, with positions up to v and values up to n; no
-// starting set is empty, and no position has two.
+// clauses, equalities, starting sets and at-most rules, all of them whole, with positions up to v and values
+// up to n; no starting set is empty, no position has two, and no at-most rule names a position twice.
 pub(crate) fn sound(file: &[u8]) -> bool {
     if file.len() < 5 || byte(file, 0) != 1 || byte(file, 1) != 0 || byte(file, 2) != 2 {
         return false;

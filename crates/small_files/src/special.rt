@@ -1,6 +1,7 @@
 // Demand 3's special kind, with starting sets (02, R-6): every rule is a clause, and of its positions at most
 // one has a united set that does not count as {1..b}. A set does if, with each starting value of the
-// position in it, all smaller starting values are in it too. Tag 4 fields may stand in such a file.
+// position in it, all smaller starting values are in it too. Tag 4 fields may stand in such a file; an
+// equality or an at-most rule (R-12) puts it outside, even one that is always met.
 //
 // With v or more splits allowed the reply to such a file is NONE at no split, or a plan at no dead end
 // that is at no position higher than any other plan.

@@ -88,21 +88,14 @@ pub(crate) fn one_if(holds: bool) -> usize
     if holds { 1 } else { 0 }
 }
 
-// The number of values of a set less one, and 0 for the empty set.
-fn spare(set: usize) -> usize
-    ensures { λ r. ⌜ r ≤ 32 ⌝ }
-{
-    let count = size(set);
-    if count < 1 { 0 } else { count - 1 }
-}
-
-// The most rounds of a first box: the sum over positions of starting size less one, plus one (02, R-10).
+// The most rounds of a first box: the sum over positions of starting size less one, plus one (02, R-10). No
+// starting set is empty.
 pub(crate) fn most_rounds(sets: &[usize; 64], v: usize) -> usize
     requires { ⌜ v ≤ 64 ⌝ }
 {
     let mut most = 1;
     for i in 0..v {
-        most += spare(sets[i]);
+        most += size(sets[i]);
     }
-    most
+    std::num::wrapping_sub_usize(most, v)
 }

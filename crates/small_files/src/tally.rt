@@ -103,7 +103,7 @@ fn print_file(what: &[u8], file: &[u8]) {
 
 // The places whose counts are printed, in this order: FILES, DAMAGED and SPECIAL, the replies by their
 // numbers, SPLITS, DEAD_ENDS, PLACES, ROUNDS, CHECKSUM, COMPARISONS and DIFFERENCES.
-const PRINTED: [usize; 26] = [
+const PRINTED: [usize; 27] = [
     48,
     49,
     50,
@@ -123,6 +123,7 @@ const PRINTED: [usize; 26] = [
     20,
     26,
     27,
+    36,
     51,
     52,
     53,
@@ -139,7 +140,7 @@ pub(crate) fn print(tally: Tally) {
         b"files #\ndamaged files #\nof the special kind #\nPLAN #\nNONE #\nUNDECIDED #\n\
           refused, 10: #\nrefused, 11: #\nrefused, 12: #\nrefused, 13: #\n\
           refused, 14: #\nrefused, 15: #\nrefused, 16: #\nrefused, 17: #\n\
-          refused, 18: #\nrefused, 19: #\nrefused, 20: #\nrefused, 26: #\nrefused, 27: #\n\
+          refused, 18: #\nrefused, 19: #\nrefused, 20: #\nrefused, 26: #\nrefused, 27: #\nrefused, 36: #\n\
           splits #\ndead ends #\nplaces #\nrounds #\n\
           checksum #\ncomparisons #\ndifferences #\n",
     );
@@ -164,7 +165,7 @@ fn print_piece(tally: Tally, byte: u8, next: usize) -> usize {
 
 // Prints a count, and answers which one is the next.
 fn print_count(tally: Tally, next: usize) -> usize {
-    if next < 26 {
+    if next < 27 {
         let place = PRINTED[next];
         if place < 64 {
             io::print_decimal(STDOUT_FILENO, tally.counts[place]);

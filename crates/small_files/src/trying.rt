@@ -15,11 +15,11 @@ use super::tally::add;
 use super::tally::expect;
 
 // How many families are systematic.
-const SYSTEMATIC: usize = 8;
+const SYSTEMATIC: usize = 12;
 
-// How many files each family has: all that there are of the first eight, which are systematic, and
-// enough of the seven that are drawn.
-const SIZES: [usize; 15] = [
+// How many files each family has: all that there are of the first twelve, which are systematic, and
+// enough of the nine that are drawn.
+const SIZES: [usize; 21] = [
     5329, // two clauses
     4641, // two clauses of three values
     3136, // two equalities
@@ -28,6 +28,10 @@ const SIZES: [usize; 15] = [
     5456, // one equality
     3822, // a clause and a starting set
     1680, // a starting set and an equality
+    6400, // an at-most rule and a clause
+    4608, // two at-most rules
+    2016, // a starting set and an at-most rule
+    1536, // an equality and an at-most rule
     6000, // all kinds
     3000, // clauses
     3000, // equalities
@@ -35,6 +39,8 @@ const SIZES: [usize; 15] = [
     3000, // all kinds, with starting sets
     3000, // sets near {1..b}, with starting sets
     1000, // starting sets of many values
+    3000, // at-most rules and clauses
+    3000, // all kinds, with starting sets and at-most rules
 ];
 
 // All families. The pseudo-random numbers go on from file to file.

@@ -1,4 +1,4 @@
-// Writing rule files, byte by byte from 01's section "The rule file" and 02's R-6.
+// Writing rule files, byte by byte from 01's section "The rule file" and 02's R-6 and R-12.
 //
 // A file stands at the front of some bytes. Each function writes at a place and answers the place
 // behind what it wrote, which is never behind the last byte. What does not fit is left out: such a
@@ -28,15 +28,6 @@ pub(crate) fn header(file: &mut [u8], v: usize, n: usize) -> usize
     put(file, at, n)
 }
 
-// Writes a field's tag, and leaves two bytes for its length.
-fn open(file: &mut [u8], at: usize, tag: usize) -> usize
-    ensures { λ r. ⌜ r ≤ length (now (file .entry)) ⌝ }
-{
-    let at = put(file, at, tag);
-    let at = put(file, at, 0);
-    put(file, at, 0)
-}
-
 // Writes the length of the field between two places into its head.
 pub(crate) fn close(file: &mut [u8], from: usize, to: usize) {
     if to < 3 {
@@ -59,24 +50,36 @@ fn set(file: &mut [u8], at: usize, set: usize) -> usize
     put(file, at, set)
 }
 
-// Writes the start of a field: its head, and the set of an equality.
-pub(crate) fn start(file: &mut [u8], at: usize, tag: usize, values: usize) -> usize
+// Writes the start of a field: its tag, two bytes for its length, the count of an at-most rule, and its set
+// or that of an equality.
+pub(crate) fn start(file: &mut [u8], at: usize, tag: usize, count: usize, values: usize) -> usize
     ensures { λ r. ⌜ r ≤ length (now (file .entry)) ⌝ }
 {
-    let at = open(file, at, tag);
-    if tag == 3 {
-        return set(file, at, values);
+    let at = put(file, at, tag);
+    let at = put(file, at, 0);
+    let at = put(file, at, 0);
+    match tag {
+        3 => set(file, at, values),
+        5 => count_and_set(file, at, count, values),
+        _ => at,
     }
-    at
 }
 
-// Writes what a field repeats: a position, and the set behind it where the field is no equality. A starting
-// set is written as a field of one such item.
+// Writes a count and a set.
+fn count_and_set(file: &mut [u8], at: usize, count: usize, values: usize) -> usize
+    ensures { λ r. ⌜ r ≤ length (now (file .entry)) ⌝ }
+{
+    let at = put(file, at, count);
+    set(file, at, values)
+}
+
+// Writes what a field repeats: a position, and the set behind it where the field is neither an equality nor an
+// at-most rule. A starting set is written as a field of one such item.
 pub(crate) fn item(file: &mut [u8], at: usize, tag: usize, position: usize, values: usize) -> usize
     ensures { λ r. ⌜ r ≤ length (now (file .entry)) ⌝ }
 {
     let at = put(file, at, position);
-    if tag == 3 {
+    if tag == 3 || tag == 5 {
         return at;
     }
     set(file, at, values)

@@ -10,14 +10,14 @@ use Rattle.sets.specs.Marks.{isMarked, withMark}
 use Rattle.sets.proofs.MarkLaws.{marked-exactly}
 use Rattle.lists.proofs.TestLaws.{test-same}
 use Rattle.rules.specs.declared.field.Tag.{Tag}
-use Rattle.rules.specs.declared.field.Tag.the-variants.{Header, Clause, Equality, Starting, Unknown}
-use Rattle.rules.specs.Rules.{Rule, clause, equality, starting}
+use Rattle.rules.specs.declared.field.Tag.the-variants.{Header, Clause, Equality, Starting, AtMost, Unknown}
+use Rattle.rules.specs.Rules.{Rule, clause, equality, starting, atMost}
 use Rattle.rules.specs.Reading.{faultIf, orElse, tagOf, headOf, contentOf, atomOf, ruleOf, lengthFits, ruleFault, ruleAt, fieldFault, withPosition, seenWith, againFault, faultAfter}
 use Rattle.rules.proofs.Reading.ByteLaws.{first-drop}
 use Rattle.rules.proofs.Reading.ContentLaws.{starting-length}
 use Rattle.rules.proofs.Reading.FaultlessLaws.{field-fault-none, starting-fault-none}
 use Rattle.sound.specs.Starts.{startedBy, StartThere}
-use Rattle.sound.proofs.FaultLaws.{first-fault, later-fault}
+use Rattle.contents.proofs.FaultLaws.{first-fault, later-fault}
 
 -- ---- a field without a fault
 
@@ -70,6 +70,7 @@ module _ (seen : ℕ) (rule : Rule) {p : ℕ} (is : p ≡ startedBy rule) where
       go (clause atoms) none = refl
       go (equality m ps) none = refl
       go (starting a) none = sym (ap (λ (q : ℕ). faultIf (isMember q seen) 27 (λ _. 0)) none)
+      go (atMost k m ps) none = refl
 
   -- one that does is, where its position is marked
   pub again-at : (p ≡ 0 → ⊥) → againFault seen rule ≡ faultIf (isMarked (p - 1) seen) 27 (λ _. 0)
@@ -80,6 +81,7 @@ module _ (seen : ℕ) (rule : Rule) {p : ℕ} (is : p ≡ startedBy rule) where
       go (clause atoms) e = absurd (some e)
       go (equality m ps) e = absurd (some e)
       go (starting a) e = ap (λ (q : ℕ). faultIf (isMember q seen) 27 (λ _. 0)) (sym e)
+      go (atMost k m ps) e = absurd (some e)
 
   -- with it its position is seen
   pub seen-at : (p ≡ 0 → ⊥) → withMark (p - 1) seen ≡ seenWith rule seen
@@ -90,6 +92,7 @@ module _ (seen : ℕ) (rule : Rule) {p : ℕ} (is : p ≡ startedBy rule) where
       go (clause atoms) e = absurd (some e)
       go (equality m ps) e = absurd (some e)
       go (starting a) e = ap (λ (q : ℕ). withMark (q - 1) seen) e
+      go (atMost k m ps) e = absurd (some e)
 
 -- a field that gives no position a starting set leaves the positions seen
 pub seen-still : (bytes : List ℕ) (seen : ℕ) → StartThere bytes → startedBy (ruleAt bytes) ≡ 0 → seen ≡ seenWith (ruleAt bytes) seen
@@ -104,6 +107,7 @@ seen-still bytes seen there none = go (tagOf (headOf bytes .tag)) refl
     go Clause e = other e refl
     go Equality e = other e refl
     go Starting e = absurd (omega (arith, there .position e, started-is bytes (sym e) refl, none))
+    go AtMost e = other e refl
     go Unknown e = other e refl
 
 -- ---- the first fault of a field behind others

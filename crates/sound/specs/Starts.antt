@@ -4,7 +4,7 @@ use mathlib.Core.Path.{_≡_}
 use mathlib.Core.List.{List}
 use lib.ListN.{length, getD}
 use Rattle.rules.specs.declared.field.Tag.the-variants.{Starting}
-use Rattle.rules.specs.Rules.{Rule, clause, equality, starting}
+use Rattle.rules.specs.Rules.{Rule, clause, equality, starting, atMost}
 use Rattle.rules.specs.Reading.{tagOf, headOf}
 use Rattle.rules.specs.Writing.{PositionFits}
 
@@ -13,6 +13,7 @@ unfoldable pub startedBy : Rule → ℕ
 startedBy (clause atoms) = 0
 startedBy (equality m ps) = 0
 startedBy (starting a) = a .position
+startedBy (atMost k m ps) = 0
 
 -- the bytes have a head, and where that announces a starting set, a position of at most 64 stands behind it
 pub record StartThere (bytes : List ℕ) : Type 0 where

@@ -7,12 +7,12 @@ ghost use lib.ListN.{length, drop};
 ghost use Rattle.rules.specs.Reading.{tagFault, bodyFault, fieldFault, faultAfter, headerBodyFault, headerFault, readFields};
 ghost use Rattle.sound.specs.Checked.{checkedOf};
 ghost use Rattle.sound.specs.Promise.{Checks};
-use super::contents::content_fault;
-use super::contents::first_of;
-use super::contents::length_fits;
-use super::contents::within;
 use super::starts::again_fault;
 use super::starts::seen_with;
+use contents::content::content_fault;
+use contents::content::first_of;
+use contents::content::length_fits;
+use contents::content::within;
 use rules::field::Tag;
 use rules::field::head_at;
 use rules::field::tag_of;
@@ -38,12 +38,14 @@ fn tag_fault(kind: Tag) -> u32
         Tag::Clause => 0,
         Tag::Equality => 0,
         Tag::Starting => 0,
+        Tag::AtMost => 0,
         Tag::Unknown => 16,
     }
 }
 
 // The first fault behind a field's head; 0 where there is none.
 fn body_fault(content: &[u8], kind: Tag, len: usize, v: u32, n: u32) -> u32
+    requires { ⌜ v ≤ 64 ⌝ }
     ensures { λ r. ⌜ r ≡ bodyFault v n kind len (now (content .entry)) ⌝ }
 {
     if !length_fits(kind, len) {
@@ -57,6 +59,7 @@ fn body_fault(content: &[u8], kind: Tag, len: usize, v: u32, n: u32) -> u32
 
 // The first fault of the field that the bytes start with; 0 where there is none.
 fn field_fault(bytes: &[u8], v: u32, n: u32) -> u32
+    requires { ⌜ v ≤ 64 ⌝ }
     ensures { λ r. ⌜ r ≡ fieldFault v n (now (bytes .entry)) ⌝ }
 {
     if bytes.len() < 3 {

@@ -20,6 +20,7 @@ pub(crate) fn started(bytes: &[u8]) -> u32
         Tag::Header => 0,
         Tag::Clause => 0,
         Tag::Equality => 0,
+        Tag::AtMost => 0,
         Tag::Unknown => 0,
     }
 }

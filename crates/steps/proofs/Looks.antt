@@ -1,4 +1,6 @@
+pub mod AtMostLaws
 pub mod ClauseLaws
+pub mod CutOthers
 pub mod DeadField
 pub mod FirstRound
 pub mod FittingRules

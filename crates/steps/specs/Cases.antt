@@ -1,5 +1,5 @@
 -- 01's twelve starred cases: the bytes of each file, the splits allowed, and the reply; the counts of l are those of 02 (R-2), the place of d (R-3) and the rounds
--- (R-10) too. Behind them two cases of R-3, five of R-10 and four of R-6. Assumes nothing.
+-- (R-10) too. Behind them two cases of R-3, five of R-10, four of R-6 and nine of R-12. Assumes nothing.
 use Prim.Native.Nat.{ℕ}
 use mathlib.Core.List.{List, [], _∷_}
 use Rattle.steps.specs.Reply.{Reply}
@@ -197,3 +197,72 @@ case-second-start =
 -- all four
 unfoldable pub started : List Case
 started = case-not-fitted ∷ case-fitted ∷ case-empty-start ∷ case-second-start ∷ []
+
+-- ---- R-12: at most k
+
+-- at most one of three positions is in {1}, and at most one in {2}, n 2: the third position has neither
+unfoldable pub case-two-buses : Case
+unfolding case
+case-two-buses =
+    case (1 ∷ 0 ∷ 2 ∷ 3 ∷ 2 ∷ 5 ∷ 0 ∷ 8 ∷ 1 ∷ 0 ∷ 0 ∷ 0 ∷ 1 ∷ 1 ∷ 2 ∷ 3 ∷ 5 ∷ 0 ∷ 8 ∷ 1 ∷ 0 ∷ 0 ∷ 0 ∷ 2 ∷ 1 ∷ 2 ∷ 3 ∷ [])
+    1000000 1 0 1 2 1 ([])
+
+-- position 1 starts at {1, 2}, and at most one of 1 and 2 is in {1, 2}, n 3: a room of two values counts too, and 2 is cut to {3}
+unfoldable pub case-wide-inside : Case
+unfolding case
+case-wide-inside =
+    case (1 ∷ 0 ∷ 2 ∷ 2 ∷ 3 ∷ 4 ∷ 0 ∷ 5 ∷ 1 ∷ 0 ∷ 0 ∷ 0 ∷ 3 ∷ 5 ∷ 0 ∷ 7 ∷ 1 ∷ 0 ∷ 0 ∷ 0 ∷ 3 ∷ 1 ∷ 2 ∷ [])
+    0 0 0 0 0 2 (1 ∷ 3 ∷ [])
+
+-- position 1 starts at {3}, and at most two of four are in {3}, n 3: position 1 is live with one value, and step 4 passes it over
+unfoldable pub case-one-value-live : Case
+unfolding case
+case-one-value-live =
+    case (1 ∷ 0 ∷ 2 ∷ 4 ∷ 3 ∷ 4 ∷ 0 ∷ 5 ∷ 1 ∷ 0 ∷ 0 ∷ 0 ∷ 4 ∷ 5 ∷ 0 ∷ 9 ∷ 2 ∷ 0 ∷ 0 ∷ 0 ∷ 4 ∷ 1 ∷ 2 ∷ 3 ∷ 4 ∷ [])
+    1000000 0 0 2 0 1 (3 ∷ 1 ∷ 1 ∷ 1 ∷ [])
+
+-- starts {1, 2}, {1, 3} and {1, 3}, and at most two are in {1, 2}: rooms that meet the set are not counted as inside
+unfoldable pub case-partly-inside : Case
+unfolding case
+case-partly-inside =
+    case (1 ∷ 0 ∷ 2 ∷ 3 ∷ 3 ∷ 4 ∷ 0 ∷ 5 ∷ 1 ∷ 0 ∷ 0 ∷ 0 ∷ 3 ∷ 4 ∷ 0 ∷ 5 ∷ 2 ∷ 0 ∷ 0 ∷ 0 ∷ 5 ∷ 4 ∷ 0 ∷ 5 ∷ 3 ∷ 0 ∷ 0 ∷ 0 ∷ 5 ∷ 5 ∷ 0 ∷ 8 ∷ 2 ∷ 0 ∷ 0 ∷ 0 ∷ 3 ∷ 1 ∷ 2 ∷ 3 ∷ [])
+    1000000 0 0 2 0 1 (1 ∷ 1 ∷ 3 ∷ [])
+
+-- none of 1 may be in {1, 2}, n 2: its field is dead from the start
+unfoldable pub case-none-allowed : Case
+unfolding case
+case-none-allowed =
+    case (1 ∷ 0 ∷ 2 ∷ 2 ∷ 2 ∷ 5 ∷ 0 ∷ 6 ∷ 0 ∷ 0 ∷ 0 ∷ 0 ∷ 3 ∷ 1 ∷ [])
+    1000000 1 5 0 1 1 ([])
+
+-- a position above v, named twice: 19
+unfoldable pub case-position-above : Case
+unfolding case
+case-position-above =
+    case (1 ∷ 0 ∷ 2 ∷ 2 ∷ 2 ∷ 5 ∷ 0 ∷ 7 ∷ 1 ∷ 0 ∷ 0 ∷ 0 ∷ 1 ∷ 3 ∷ 3 ∷ [])
+    1000000 19 5 0 0 0 ([])
+
+-- a value above n before a position above v: 20
+unfoldable pub case-set-above : Case
+unfolding case
+case-set-above =
+    case (1 ∷ 0 ∷ 2 ∷ 2 ∷ 2 ∷ 5 ∷ 0 ∷ 6 ∷ 1 ∷ 0 ∷ 0 ∷ 0 ∷ 4 ∷ 3 ∷ [])
+    1000000 20 5 0 0 0 ([])
+
+-- a position named twice: 36
+unfoldable pub case-named-twice : Case
+unfolding case
+case-named-twice =
+    case (1 ∷ 0 ∷ 2 ∷ 2 ∷ 2 ∷ 5 ∷ 0 ∷ 7 ∷ 1 ∷ 0 ∷ 0 ∷ 0 ∷ 1 ∷ 1 ∷ 1 ∷ [])
+    1000000 36 5 0 0 0 ([])
+
+-- a position named twice before one above v: 19 of every position comes first
+unfoldable pub case-twice-and-above : Case
+unfolding case
+case-twice-and-above =
+    case (1 ∷ 0 ∷ 2 ∷ 2 ∷ 2 ∷ 5 ∷ 0 ∷ 8 ∷ 1 ∷ 0 ∷ 0 ∷ 0 ∷ 1 ∷ 1 ∷ 1 ∷ 3 ∷ [])
+    1000000 19 5 0 0 0 ([])
+
+-- all nine
+unfoldable pub atMosts : List Case
+atMosts = case-two-buses ∷ case-wide-inside ∷ case-one-value-live ∷ case-partly-inside ∷ case-none-allowed ∷ case-position-above ∷ case-set-above ∷ case-named-twice ∷ case-twice-and-above ∷ []

@@ -2,11 +2,13 @@
 use Prim.Native.Nat.{ℕ, zero, suc, _+_}
 use mathlib.Core.Bool.{Bool, true, false, not, _&&_, _||_}
 use mathlib.Core.List.{List, [], _∷_}
-use lib.Dec.{eqb}
-use Rattle.sets.specs.Sets.{union, common, inside, isEmpty}
+use lib.Dec.{eqb, leb, ltb}
+use Rattle.sets.specs.Sets.{union, common, inside, meets, beside}
+use Rattle.lists.specs.Passing.{passing}
 use Rattle.rules.specs.declared.field.Atom.{Atom}
+use Rattle.rules.specs.Reading.{named}
 use Rattle.rules.specs.Rules.{Rule, Field}
-use Rattle.rules.specs.Parts.{Part, oneOf, partsOf}
+use Rattle.rules.specs.Parts.{Part, oneOf, noMoreThan, partsOf}
 use Rattle.steps.specs.Boxes.{roomAt, withRoom, openValues}
 
 -- what a look finds: something that no assignment of the box meets, in the field with this place; or the box as it is afterwards
@@ -38,7 +40,7 @@ united p (a ∷ more) = uniteIf (eqb (a .position) p) (a .set) (united p more)
 
 -- whether a position with this room is live in a clause: its room meets the union of its sets
 unfoldable pub isLive : List Atom → ℕ → ℕ → Bool
-isLive atoms p room = not (isEmpty (common room (united p atoms)))
+isLive atoms p room = meets room (united p atoms)
 
 -- the live positions among those from p on with these rooms
 unfoldable pub liveFrom : List Atom → ℕ → List ℕ → List ℕ
@@ -72,19 +74,56 @@ settledBy (a ∷ more) atoms box = inside (roomAt box (a .position)) (united (a 
 unfoldable pub settledClause : List ℕ → List Atom → Bool
 settledClause box atoms = settledBy atoms atoms box
 
+-- ---- no more than k of some positions in a set
+
+-- how many of the positions have rooms inside the set
+unfoldable pub insideCount : ℕ → List ℕ → List ℕ → ℕ
+insideCount m ps box = passing (λ p. inside (roomAt box p) m) ps
+
+-- how many have rooms that meet it
+unfoldable pub meetingCount : ℕ → List ℕ → List ℕ → ℕ
+meetingCount m ps box = passing (λ p. meets (roomAt box p) m) ps
+
+-- the position's room, where it does not lie inside the set, cut down to the values outside
+unfoldable pub cutOne : ℕ → ℕ → List ℕ → List ℕ
+cutOne m p box = ifTest (inside (roomAt box p) m) box λ _. withRoom box p (beside m (roomAt box p))
+
+-- so are the rooms of all of the positions
+unfoldable pub cutOthers : ℕ → List ℕ → List ℕ → List ℕ
+cutOthers m [] box = box
+cutOthers m (p ∷ ps) box = cutOthers m ps (cutOne m p box)
+
+-- a look counts first: more than k rooms inside are dead; exactly k: the others are cut, all in one look; fewer: nothing changes
+unfoldable pub lookAtMost : ℕ → ℕ → ℕ → List ℕ → List ℕ → Look
+lookAtMost place k m ps box =
+    ifTest (ltb k (insideCount m ps box)) (dead place) λ _.
+    ifTest (eqb (insideCount m ps box) k) (alive (cutOthers m ps box)) λ _.
+    alive box
+
+-- settled where at most k rooms meet the set
+unfoldable pub settledAtMost : List ℕ → ℕ → ℕ → List ℕ → Bool
+settledAtMost box k m ps = leb (meetingCount m ps box) k
+
+-- a named position is live where its room meets the set
+unfoldable pub isLiveAtMost : ℕ → List ℕ → ℕ → ℕ → Bool
+isLiveAtMost m ps p room = named p ps && meets room m
+
 -- ---- a part of a rule: "one of these atoms" is a clause
 
 -- whether a position with this room is live in a part
 abbrev pub isLiveIn : Part → ℕ → ℕ → Bool
 isLiveIn (oneOf atoms) p room = isLive atoms p room
+isLiveIn (noMoreThan k m ps) p room = isLiveAtMost m ps p room
 
 -- a look at a part
 abbrev pub lookPart : ℕ → Part → List ℕ → Look
 lookPart place (oneOf atoms) box = lookClause place atoms box
+lookPart place (noMoreThan k m ps) box = lookAtMost place k m ps box
 
 -- whether every assignment of the box meets the part already
 abbrev pub settledPart : List ℕ → Part → Bool
 settledPart box (oneOf atoms) = settledClause box atoms
+settledPart box (noMoreThan k m ps) = settledAtMost box k m ps
 
 -- ---- looks in turn: a rule, a round, shrinking
 

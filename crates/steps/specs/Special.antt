@@ -6,7 +6,7 @@ use lib.Dec.{leb}
 use Rattle.sets.specs.Sets.{full, common, isEmpty, inside, smallest, beside}
 use Rattle.sets.specs.Promise.{oneIf}
 use Rattle.rules.specs.declared.field.Atom.{Atom}
-use Rattle.rules.specs.Rules.{Rule, Field, File, clause, equality, starting}
+use Rattle.rules.specs.Rules.{Rule, Field, File, clause, equality, starting, atMost}
 use Rattle.rules.specs.Writing.{fieldsOf}
 use Rattle.steps.specs.Boxes.{roomAt}
 use Rattle.steps.specs.Shrinking.{united}
@@ -26,6 +26,7 @@ unfoldable pub specialRule : ℕ → List ℕ → Rule → Bool
 specialRule v start (clause atoms) = leb (oddSets v start atoms) 1
 specialRule v start (equality m ps) = false
 specialRule v start (starting a) = true
+specialRule v start (atMost k m ps) = false
 
 -- whether every field's rule is
 unfoldable pub specialRules : ℕ → List ℕ → List Field → Bool

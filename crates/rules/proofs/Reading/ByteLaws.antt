@@ -42,9 +42,9 @@ unfolding headOf
 head-drop bytes k = λ i. record { tag = first-drop bytes k i; length = length-at-drop bytes k 1 i }
 
 -- a tag that is none of the known ones
-pub tag-unknown : (tag : ℕ) → (tag ≡ 1 → ⊥) → (tag ≡ 2 → ⊥) → (tag ≡ 3 → ⊥) → (tag ≡ 4 → ⊥) → tagOf tag ≡ Unknown
+pub tag-unknown : (tag : ℕ) → (tag ≡ 1 → ⊥) → (tag ≡ 2 → ⊥) → (tag ≡ 3 → ⊥) → (tag ≡ 4 → ⊥) → (tag ≡ 5 → ⊥) → tagOf tag ≡ Unknown
 unfolding tagOf
-tag-unknown tag not1 not2 not3 not4 = simp (ne-eqb tag 1 not1, ne-eqb tag 2 not2, ne-eqb tag 3 not3, ne-eqb tag 4 not4)
+tag-unknown tag not1 not2 not3 not4 not5 = simp (ne-eqb tag 1 not1, ne-eqb tag 2 not2, ne-eqb tag 3 not3, ne-eqb tag 4 not4, ne-eqb tag 5 not5)
 
 -- a slice of bytes has bytes alone
 pub bytes-each : (s : List ℕ) → ((i : ℕ) → getD s i 0 < 256) → Every (λ b. b < 256) s

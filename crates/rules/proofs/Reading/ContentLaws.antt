@@ -10,13 +10,13 @@ use lib.Seq.{drop-cons, drop-drop}
 use Rattle.rules.specs.declared.field.Atom.{Atom}
 use Rattle.rules.specs.Parts.{oneOf, partsOf}
 use Rattle.rules.specs.declared.field.Tag.{Tag}
-use Rattle.rules.specs.declared.field.Tag.the-variants.{Header, Clause, Equality, Starting, Unknown}
+use Rattle.rules.specs.declared.field.Tag.the-variants.{Header, Clause, Equality, Starting, AtMost, Unknown}
 use Rattle.rules.specs.Reading.{atomOf, atomsOf, ruleOf, lengthFits, tagFault, ruleFault}
 use Rattle.rules.specs.Writing.{PositionFits, AtomFits}
 use Rattle.rules.specs.Contents.{AtomsFit, ContentFits}
 use Rattle.lists.proofs.ListLaws.{every-map}
 use Rattle.lists.proofs.TestLaws.{both-hold, le-holds, eq-holds}
-use Rattle.rules.proofs.Reading.FaultlessLaws.{clause-fault-none, equality-fault-none, starting-fault-none}
+use Rattle.rules.proofs.Reading.FaultlessLaws.{clause-fault-none, equality-fault-none, starting-fault-none, at-most-fault-none}
 
 -- a clause's length is 5 for each atom
 pub clause-length : (len : ℕ) → T (lengthFits Clause len) → len / 5 * 5 ≡ len
@@ -32,6 +32,11 @@ equality-length len t = le-holds 4 len .0 (both-hold (leb 4 len) (leb len 68) .0
 pub starting-length : (len : ℕ) → T (lengthFits Starting len) → len ≡ 5
 unfolding lengthFits
 starting-length len t = eq-holds len 5 .0 t
+
+-- an at-most field's length is 5 at least
+pub at-most-length : (len : ℕ) → T (lengthFits AtMost len) → 5 ≤ len
+unfolding lengthFits
+at-most-length len t = le-holds 5 len .0 (both-hold (leb 5 len) (leb len 69) .0 t .0)
 
 -- so it is one atom
 pub one-atom : (len : ℕ) (content : List ℕ) → len ≡ 5 → atomsOf (len / 5) content ≡ atomOf content ∷ []
@@ -69,6 +74,9 @@ content-fits v n Starting len content few f t there none =
         fit = subst (AtomsFit v) (sym (one-atom len content five)) (starting-fault-none v n (atomOf content) .0 none .0 .0, tt);
       },
     )
+content-fits v n AtMost len content few f t there none =
+    let long = at-most-length len t in
+    (long, record { there = omega (arith, length-drop 5 content); few = few; fit = at-most-fault-none v n _ _ _ .0 none .1 })
 content-fits v n Unknown len content few f t there none = absurd (omega arith)
 
 -- the first of some atoms, and the others

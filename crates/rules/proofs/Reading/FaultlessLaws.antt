@@ -9,8 +9,8 @@ use lib.Dec.{T, eqb, T-not, not-T}
 use lib.ListN.{length, getD}
 use Rattle.rules.specs.declared.field.Atom.{Atom}
 use Rattle.lists.specs.Lists.{Every}
-use Rattle.rules.specs.Rules.{Rule, clause, equality, starting}
-use Rattle.rules.specs.Reading.{tagOf, lengthFits, faultIf, orElse, tagFault, bodyFault, headerBodyFault, positionFault, setFault, atomFault, atomsFault, positionsFault, emptyFault, ruleFault, ruleAt, headOf, contentOf, fieldFault, againFault, faultAfter, limitsFit, headerFault}
+use Rattle.rules.specs.Rules.{Rule, clause, equality, starting, atMost}
+use Rattle.rules.specs.Reading.{tagOf, lengthFits, faultIf, orElse, tagFault, bodyFault, headerBodyFault, positionFault, setFault, atomFault, atomsFault, positionsFault, emptyFault, namedTwice, twiceFault, ruleFault, ruleAt, headOf, contentOf, fieldFault, againFault, faultAfter, limitsFit, headerFault}
 use Rattle.rules.specs.Writing.{PositionFits, SetFits, AtomFits, Unseen}
 use Rattle.sets.specs.Sets.{isMember, isEmpty}
 use Rattle.lists.proofs.TestLaws.{not-not, both-hold, le-holds, lt-fails, eq-holds, eq-fails}
@@ -26,6 +26,10 @@ fault-none false number rest h = (λ e. (tt, e), λ e. e .1)
 pub or-else-none : (first later : ℕ) → (orElse first later ≡ 0) ↔ ((first ≡ 0) × (later ≡ 0))
 or-else-none zero later = (λ e. (refl, e), λ e. e .1)
 or-else-none (suc first) later = omega arith
+
+-- a single test finds no fault exactly if it does not hold
+pub test-fault-none : (b : Bool) (number : ℕ) → eqb number 0 ≡ false → (faultIf b number (λ _. 0) ≡ 0) ↔ (T b → ⊥)
+test-fault-none b number h = Iff·trans (fault-none b number (λ _. 0) h) (λ f. T-not b (f .0), λ f. (not-T b f, refl))
 
 -- what a chain of tests says that finds no fault
 pub ruleset tests = (fault-none, or-else-none, not-not, both-hold, le-holds, lt-fails, eq-holds, eq-fails)
@@ -57,7 +61,7 @@ unfolding atomsFault
 atoms-fault-none v n = faults-none (atomFault v n) _ (atomsFault v n) (atom-fault-none v n) refl (λ a more. refl)
 
 -- positions have no fault exactly if each is 1 to v
-positions-fault-none : (v : ℕ) (ps : List ℕ) → (positionsFault v ps ≡ 0) ↔ Every (PositionFits v) ps
+pub positions-fault-none : (v : ℕ) (ps : List ℕ) → (positionsFault v ps ≡ 0) ↔ Every (PositionFits v) ps
 unfolding positionsFault
 positions-fault-none v = faults-none (positionFault v) _ (positionsFault v) (position-fault-none v) refl (λ p more. refl)
 
@@ -81,14 +85,23 @@ pub starting-fault-none : (v n : ℕ) (a : Atom) → (ruleFault v n (starting a)
 unfolding ruleFault
 starting-fault-none v n a = simp (or-else-none, atom-fault-none, empty-fault-none) Iff·rfl
 
+-- no position of some is named twice exactly if there is no such fault
+twice-fault-none : (ps : List ℕ) → (twiceFault ps ≡ 0) ↔ (T (namedTwice ps) → ⊥)
+unfolding twiceFault
+twice-fault-none ps = test-fault-none (namedTwice ps) 36 refl
+
+-- and an at-most rule has none exactly if its set and its positions are within the limits and none of these is named twice
+pub at-most-fault-none : (v n k m : ℕ) (ps : List ℕ) → (ruleFault v n (atMost k m ps) ≡ 0) ↔ (SetFits n m × Every (PositionFits v) ps × (T (namedTwice ps) → ⊥))
+unfolding ruleFault
+at-most-fault-none v n k m ps = simp (or-else-none, set-fault-none, positions-fault-none, twice-fault-none) (λ h. search, λ h. search)
+
 -- a rule is no second starting set exactly if its position was not seen
 pub again-fault-none : (seen : ℕ) (r : Rule) → (againFault seen r ≡ 0) ↔ Unseen seen r
 unfolding againFault
 again-fault-none seen (clause atoms) = (λ e. tt, λ t. refl)
 again-fault-none seen (equality m ps) = (λ e. tt, λ t. refl)
-again-fault-none seen (starting a) =
-    let again = isMember (a .position) seen in
-    Iff·trans (fault-none again 27 (λ _. 0) refl) (λ h. T-not again (h .0), λ h. (not-T again h, refl))
+again-fault-none seen (starting a) = test-fault-none (isMember (a .position) seen) 27 refl
+again-fault-none seen (atMost k m ps) = (λ e. tt, λ t. refl)
 
 -- ---- a field and the header
 

@@ -1,4 +1,4 @@
--- The numbers and places of refusals: reading refuses with 13 to 20, 26 and 27 alone, `refused-number`, at a place within the input, `refused-place`; else v and n are the header's, `read-limits`, and no rule has a fault, `read-faultless`. Assumes nothing.
+-- The numbers and places of refusals: reading refuses with 13 to 20, 26, 27 and 36 alone, `refused-number`, at a place within the input, `refused-place`; else v and n are the header's, `read-limits`, and no rule has a fault, `read-faultless`. Assumes nothing.
 use mathlib.Core.Path.{_≡_, refl, sym, subst, subst₂}
 use mathlib.Core.Bool.{Bool, true, false}
 use mathlib.Core.List.{List, [], _∷_}
@@ -10,15 +10,15 @@ use lib.ListN.{length, getD, drop, length-drop}
 use Rattle.lists.specs.Lists.{Every}
 use Rattle.rules.specs.declared.field.Atom.{Atom}
 use Rattle.rules.specs.declared.field.Tag.{Tag}
-use Rattle.rules.specs.declared.field.Tag.the-variants.{Header, Clause, Equality, Starting, Unknown}
-use Rattle.rules.specs.Rules.{Rule, File, clause, equality, starting}
-use Rattle.rules.specs.Reading.{faultIf, orElse, positionFault, setFault, atomFault, atomsFault, positionsFault, emptyFault, ruleFault, tagFault, bodyFault, fieldFault, againFault, faultAfter, headerBodyFault, headerFault}
+use Rattle.rules.specs.declared.field.Tag.the-variants.{Header, Clause, Equality, Starting, AtMost, Unknown}
+use Rattle.rules.specs.Rules.{Rule, File, clause, equality, starting, atMost}
+use Rattle.rules.specs.Reading.{faultIf, orElse, namedTwice, positionFault, setFault, atomFault, atomsFault, positionsFault, emptyFault, twiceFault, ruleFault, tagFault, bodyFault, fieldFault, againFault, faultAfter, headerBodyFault, headerFault}
 use Rattle.rules.specs.Reading.{Reading, sound, refused, refuseFor, withRule, ruleAt, sizeOf, seenWith, readFields, reading}
 use Rattle.rules.proofs.Reading.FaultlessLaws.{fault-after-none}
 
 -- the numbers that reading refuses with
 abbrev Refusing : ℕ → Type 0
-Refusing number = ((13 ≤ number) × (number ≤ 20)) ⊎ ((26 ≤ number) × (number ≤ 27))
+Refusing number = ((13 ≤ number) × (number ≤ 20)) ⊎ ((26 ≤ number) × (number ≤ 27)) ⊎ (number ≡ 36)
 
 -- ---- faults: none, or one of these numbers
 
@@ -37,7 +37,7 @@ early : (number : ℕ) → 13 ≤ number → number ≤ 20 → Refusing number
 early number low high = inl (low, high)
 
 late : (number : ℕ) → 26 ≤ number → number ≤ 27 → Refusing number
-late number low high = inr (low, high)
+late number low high = inr (inl (low, high))
 
 or-else-number : (first later : ℕ) → Fault first → Fault later → Fault (orElse first later)
 or-else-number zero later f g = g
@@ -72,11 +72,16 @@ unfolding positionsFault
 positions-number v [] = inl refl
 positions-number v (p ∷ ps) = or-else-number _ _ (position-number v p) (positions-number v ps)
 
+twice-number : (ps : List ℕ) → Fault (twiceFault ps)
+unfolding twiceFault
+twice-number ps = fault-if-number (namedTwice ps) 36 _ (inr (inr refl)) no-fault
+
 rule-number : (v n : ℕ) (rule : Rule) → Fault (ruleFault v n rule)
 unfolding ruleFault
 rule-number v n (clause atoms) = atoms-number v n atoms
 rule-number v n (equality m ps) = or-else-number _ _ (set-number n m) (positions-number v ps)
 rule-number v n (starting a) = or-else-number _ _ (atom-number v n a) (empty-number (a .set))
+rule-number v n (atMost k m ps) = or-else-number _ _ (set-number n m) (or-else-number _ _ (positions-number v ps) (twice-number ps))
 
 tag-number : (kind : Tag) → Fault (tagFault kind)
 unfolding tagFault
@@ -84,6 +89,7 @@ tag-number Header = inr (early _ (omega arith) (omega arith))
 tag-number Clause = no-fault
 tag-number Equality = no-fault
 tag-number Starting = no-fault
+tag-number AtMost = no-fault
 tag-number Unknown = inr (early _ (omega arith) (omega arith))
 
 field-number : (v n : ℕ) (bytes : List ℕ) → Fault (fieldFault v n bytes)
@@ -95,6 +101,7 @@ unfolding againFault
 again-number seen (clause atoms) = no-fault
 again-number seen (equality m ps) = no-fault
 again-number seen (starting a) = search numbers
+again-number seen (atMost k m ps) = no-fault
 
 after-number : (v n seen : ℕ) (bytes : List ℕ) → Fault (faultAfter v n seen bytes)
 unfolding faultAfter
@@ -145,13 +152,13 @@ reading-fine s =
     let fields = fields-fine (getD s 3 0) (getD s 4 0) (length s) (length s) 0 5 (drop 5 s) (λ l. omega (arith, length-drop 5 s)) in
     refuse-for-fine (getD s 3 0) (getD s 4 0) (length s) (headerFault s) 0 _ (header-number s) (omega arith) (λ e. fields)
 
--- reading refuses with the numbers 13 to 20, 26 and 27 alone
-pub refused-number : (s : List ℕ) (number place : ℕ) → reading s ≡ refused number place → ((13 ≤ number) × (number ≤ 20)) ⊎ ((26 ≤ number) × (number ≤ 27))
+-- reading refuses with the numbers 13 to 20, 26, 27 and 36 alone
+pub refused-number : (s : List ℕ) (number place : ℕ) → reading s ≡ refused number place → ((13 ≤ number) × (number ≤ 20)) ⊎ ((26 ≤ number) × (number ≤ 27)) ⊎ (number ≡ 36)
 refused-number s number place e = subst (Fine (getD s 3 0) (getD s 4 0) (length s)) e (reading-fine s) .0
 
--- so they lie between 13 and 27
-pub refused-range : (s : List ℕ) (number place : ℕ) → reading s ≡ refused number place → (13 ≤ number) × (number ≤ 27)
-refused-range s number place e = ⊎-elim (λ h. omega arith) (λ h. omega arith) (refused-number s number place e)
+-- so they lie between 13 and 36
+pub refused-range : (s : List ℕ) (number place : ℕ) → reading s ≡ refused number place → (13 ≤ number) × (number ≤ 36)
+refused-range s number place e = ⊎-elim (λ h. omega arith) (⊎-elim (λ h. omega arith) (λ h. omega arith)) (refused-number s number place e)
 
 -- the place of a refusal lies within the input
 pub refused-place : (s : List ℕ) (number place : ℕ) → reading s ≡ refused number place → place ≤ length s

@@ -5,7 +5,7 @@ use native.Mathlib.Omega.{arith}
 use lib.ListN.{length}
 use Prim.Native.Nat.{ℕ}
 use Rattle.sets.specs.Sets.{inRange, onlyIf, full, common, inside}
-use Rattle.rules.specs.Rules.{Rule, File, Field, clause, equality, starting}
+use Rattle.rules.specs.Rules.{Rule, File, Field, clause, equality, starting, atMost}
 use Rattle.rules.specs.Reading.{tagOf, lengthAt, setAt, atomOf, headOf, contentOf, atomsOf, ruleOf, lengthFits, tagFault, bodyFault, headerBodyFault, positionFault, setFault, atomFault, atomsFault, positionsFault, ruleFault, ruleAt, fieldFault, againFault, faultAfter, limitsFit, headerFault, sound, sizeOf, readFields, reading}
 use Rattle.rules.specs.Writing.{twoBytes, fourBytes, writtenAtoms, framed, tagByte, contentBytes, writtenRule, writtenRules, written, placed, fieldsOf}
 use Rattle.rules.specs.Sound.{StandsIn}
@@ -56,6 +56,7 @@ abbrev atomsIn : Rule → ℕ
 atomsIn (clause atoms) = length atoms
 atomsIn (equality m ps) = 0
 atomsIn (starting a) = 0
+atomsIn (atMost k m ps) = 0
 
 -- the empty clause stands in the bytes at 32, where its tag byte is; it does not stand at 33, and at 5 another clause is read
 pub example-stands : StandsIn exampleBytes (record { place = 32; rule = clause [] }) × (StandsIn exampleBytes (record { place = 33; rule = clause [] }) → ⊥)

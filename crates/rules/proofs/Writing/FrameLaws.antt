@@ -8,7 +8,7 @@ use lib.Dec.{T, eqb, eqb→eq, lit<}
 use lib.ListN.{length, getD, take, drop, take-append-drop}
 use lib.Seq.{drop-drop, length-take-le}
 use Rattle.rules.specs.declared.field.Tag.{Tag}
-use Rattle.rules.specs.declared.field.Tag.the-variants.{Header, Clause, Equality, Starting, Unknown}
+use Rattle.rules.specs.declared.field.Tag.the-variants.{Header, Clause, Equality, Starting, AtMost, Unknown}
 use Rattle.lists.specs.Lists.{Every}
 use Rattle.rules.specs.Reading.{pickTag, tagOf, lengthAt, setAt, headOf, contentOf, sizeOf}
 use Rattle.rules.specs.Writing.{twoBytes, fourBytes, framed}
@@ -36,7 +36,7 @@ bytes-drop zero bytes small = small
 bytes-drop (suc k) [] small = small
 bytes-drop (suc k) (b ∷ bytes) small = bytes-drop k bytes (small .1)
 
-byte-at : (i : ℕ) (bytes : List ℕ) → Every Byte bytes → getD bytes i 0 < 256
+pub byte-at : (i : ℕ) (bytes : List ℕ) → Every Byte bytes → getD bytes i 0 < 256
 byte-at i [] small = lit< tt
 byte-at zero (b ∷ bytes) small = small .0
 byte-at (suc i) (b ∷ bytes) small = byte-at i bytes (small .1)
@@ -74,9 +74,9 @@ set-of-read = by-front 4 _ λ a b c d rest small.
 -- ---- tags
 
 -- what holds of each known tag with its kind, and of every tag as an unknown one, holds of a tag and the kind that it announces
-pub tag-cases : (P : ℕ → Tag → Type 0) → P 1 Header → P 2 Clause → P 3 Equality → P 4 Starting → ((tag : ℕ) → P tag Unknown) → (tag : ℕ) → P tag (tagOf tag)
+pub tag-cases : (P : ℕ → Tag → Type 0) → P 1 Header → P 2 Clause → P 3 Equality → P 4 Starting → P 5 AtMost → ((tag : ℕ) → P tag Unknown) → (tag : ℕ) → P tag (tagOf tag)
 unfolding tagOf
-tag-cases P one two three four unknown tag = known 1 Header _ one (known 2 Clause _ two (known 3 Equality _ three (known 4 Starting _ four (unknown tag))))
+tag-cases P one two three four five unknown tag = known 1 Header _ one (known 2 Clause _ two (known 3 Equality _ three (known 4 Starting _ four (known 5 AtMost _ five (unknown tag)))))
   where
     pick : (b : Bool) (kind other : Tag) → (T b → P tag kind) → P tag other → P tag (pickTag b kind other)
     pick true kind other holds fails = holds tt

@@ -9,7 +9,7 @@ use borrow.Author.Tests.{lt-ltb, le-ltb}
 use lib.ListN.{length, length-append}
 use Rattle.lists.specs.Lists.{Every}
 use Rattle.lists.proofs.ListLaws.{every-map, every-over-append}
-use Rattle.rules.specs.Rules.{Rule, Field, File, clause, equality, starting}
+use Rattle.rules.specs.Rules.{Rule, Field, File, clause, equality, starting, atMost}
 use Rattle.rules.specs.Writing.{framed, writtenRule, writtenRules, written, placed, fieldsOf, RuleFits, OneStart, Within}
 use Rattle.rules.specs.Reading.{seenWith}
 use Rattle.rules.specs.UpTo.{fieldsUpTo, fieldsBehind, rulesOf, onlyStarts, upTo}
@@ -96,6 +96,7 @@ starts-every P [] each = tt
 starts-every P (clause atoms ∷ rules) each = starts-every P rules (each .1)
 starts-every P (equality m ps ∷ rules) each = starts-every P rules (each .1)
 starts-every P (starting a ∷ rules) each = (each .0, starts-every P rules (each .1))
+starts-every P (atMost k m ps ∷ rules) each = starts-every P rules (each .1)
 
 -- where no position has two starting sets, none has behind some rules
 starts-once : (seen : ℕ) (front later : List Rule) → OneStart seen (front ++ later) → OneStart seen (front ++ onlyStarts later)
@@ -105,6 +106,7 @@ starts-once seen [] [] one = tt
 starts-once seen [] (clause atoms ∷ rules) one = starts-once seen [] rules (one .1)
 starts-once seen [] (equality m ps ∷ rules) one = starts-once seen [] rules (one .1)
 starts-once seen [] (starting a ∷ rules) one = (one .0, starts-once (seenWith (starting a) seen) [] rules (one .1))
+starts-once seen [] (atMost k m ps ∷ rules) one = starts-once seen [] rules (one .1)
 
 -- they take no more bytes
 starts-short : (rules : List Rule) → length (writtenRules (onlyStarts rules)) ≤ length (writtenRules rules)
@@ -114,6 +116,7 @@ starts-short (clause atoms ∷ rules) = omega (arith, starts-short rules, length
 starts-short (equality m ps ∷ rules) = omega (arith, starts-short rules, length-append (writtenRule (equality m ps)) (writtenRules rules))
 starts-short (starting a ∷ rules) =
     omega (arith, starts-short rules, length-append (writtenRule (starting a)) (writtenRules rules), length-append (writtenRule (starting a)) (writtenRules (onlyStarts rules)))
+starts-short (atMost k m ps ∷ rules) = omega (arith, starts-short rules, length-append (writtenRule (atMost k m ps)) (writtenRules rules))
 
 -- ---- a file
 

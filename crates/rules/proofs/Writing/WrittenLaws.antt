@@ -5,18 +5,18 @@ use mathlib.Core.Logic.{_↔_}
 use Prim.Native.Nat.{ℕ, zero, suc, _+_, _-_, _*_, _/_, _≤_, _<_}
 use native.Mathlib.Omega.{arith}
 use lib.Dec.{T}
-use lib.ListN.{length, take, drop, length-append, length-drop}
+use lib.ListN.{length, getD, take, drop, length-append, length-drop}
 use lib.Seq.{take-append-seam, take-add, length-take-le}
 use Rattle.rules.specs.declared.field.Tag.{Tag}
-use Rattle.rules.specs.declared.field.Tag.the-variants.{Header, Clause, Equality, Starting, Unknown}
+use Rattle.rules.specs.declared.field.Tag.the-variants.{Header, Clause, Equality, Starting, AtMost, Unknown}
 use Rattle.rules.specs.declared.field.Atom.{Atom}
 use Rattle.lists.specs.Lists.{Every}
-use Rattle.rules.specs.Rules.{Rule, clause, equality, starting}
+use Rattle.rules.specs.Rules.{Rule, clause, equality, starting, atMost}
 use Rattle.rules.specs.Reading.{tagOf, setAt, atomOf, headOf, contentOf, atomsOf, ruleOf, lengthFits, tagFault, ruleFault, ruleAt, sizeOf}
 use Rattle.rules.specs.Writing.{fourBytes, writtenAtoms, tagByte, contentBytes, writtenRule, RuleFits}
-use Rattle.rules.proofs.Reading.ContentLaws.{clause-length, equality-length, starting-length}
-use Rattle.rules.proofs.Reading.FaultlessLaws.{tests, clause-fault-none, equality-fault-none, starting-fault-none, SoundField}
-use Rattle.rules.proofs.Writing.FrameLaws.{Byte, bytes-drop, length-below, set-of-written, set-of-read, tag-cases, framed-length, head-of-framed, content-of-framed, framed-of-read}
+use Rattle.rules.proofs.Reading.ContentLaws.{clause-length, equality-length, starting-length, at-most-length}
+use Rattle.rules.proofs.Reading.FaultlessLaws.{tests, clause-fault-none, equality-fault-none, starting-fault-none, at-most-fault-none, SoundField}
+use Rattle.rules.proofs.Writing.FrameLaws.{Byte, bytes-drop, byte-at, length-below, set-of-written, set-of-read, tag-cases, framed-length, head-of-framed, content-of-framed, framed-of-read}
 
 -- ---- a rule's tag and content
 
@@ -25,6 +25,7 @@ unfolding tagOf tagByte tagFault
 rule-tag (clause atoms) = refl
 rule-tag (equality m ps) = refl
 rule-tag (starting a) = refl
+rule-tag (atMost k m ps) = refl
 
 atoms-length : (atoms : List Atom) → length (writtenAtoms atoms) ≡ length atoms * 5
 unfolding writtenAtoms fourBytes
@@ -39,13 +40,21 @@ written-length r = framed-length (tagByte r) (contentBytes r)
 pub written-long : (r : Rule) → 3 ≤ length (writtenRule r)
 written-long r = omega (arith, written-length r)
 
--- within the limits: the length fits the kind and two bytes, and the content has no fault
+-- a count is a byte
+abbrev CountFits : Rule → Type 0
+CountFits (clause atoms) = Unit {0}
+CountFits (equality m ps) = Unit {0}
+CountFits (starting a) = Unit {0}
+CountFits (atMost k m ps) = k < 256
+
+-- within the limits: the length fits the kind and two bytes, the content has no fault, and a count is a byte
 rule-fits : (v n : ℕ) (r : Rule)
-    → RuleFits v n r ↔ (T (lengthFits (tagOf (tagByte r)) (length (contentBytes r))) × (length (contentBytes r) < 65536) × (ruleFault v n r ≡ 0))
+    → RuleFits v n r ↔ (T (lengthFits (tagOf (tagByte r)) (length (contentBytes r))) × (length (contentBytes r) < 65536) × (ruleFault v n r ≡ 0) × CountFits r)
 unfolding tagOf lengthFits tagByte contentBytes fourBytes
-rule-fits v n (clause atoms) = simp (tests, clause-fault-none, atoms-length) (λ h. (omega arith, h .0, h .1), λ h. (h .1, h .2))
-rule-fits v n (equality m ps) = simp (tests, equality-fault-none) (λ h. (omega arith, omega arith, (h .1, h .2)), λ h. (omega arith, h .2 .0, h .2 .1))
-rule-fits v n (starting a) = simp (tests, starting-fault-none, atoms-length) (λ h. (omega arith, omega arith, h), λ h. h .2)
+rule-fits v n (clause atoms) = simp (tests, clause-fault-none, atoms-length) (λ h. (omega arith, h .0, h .1, tt), λ h. (h .1, h .2))
+rule-fits v n (equality m ps) = simp (tests, equality-fault-none) (λ h. (omega arith, omega arith, (h .1, h .2), tt), λ h. (omega arith, h .2 .0, h .2 .1))
+rule-fits v n (starting a) = simp (tests, starting-fault-none, atoms-length) (λ h. (omega arith, omega arith, h, tt), λ h. h .2)
+rule-fits v n (atMost k m ps) = simp (tests, at-most-fault-none) (λ h. (omega arith, omega arith, (h .2, h .3, h .4), h .0), λ h. (h .3, omega arith, h .2 .0, h .2 .1, h .2 .2))
 
 -- so a rule within the limits has no fault
 pub fits-faultless : (v n : ℕ) (r : Rule) → RuleFits v n r → ruleFault v n r ≡ 0
@@ -68,6 +77,9 @@ rule-of-content (clause atoms) rest =
 rule-of-content (equality m ps) rest =
     let number : length (fourBytes m ++ ps) - 4 ≡ length ps = omega arith in
     rw (number, take-append-seam ps rest, set-of-written m (ps ++ rest))
+rule-of-content (atMost k m ps) rest =
+    let number : length (k ∷ fourBytes m ++ ps) - 5 ≡ length ps = omega arith in
+    rw (number, take-append-seam ps rest, set-of-written m (ps ++ rest))
 rule-of-content (starting a) rest = ap (λ (m : ℕ). starting (record { position = a .position; set = m })) (set-of-written (a .set) rest)
 
 -- ---- a content that was read is written back
@@ -86,6 +98,13 @@ atoms-of-read (suc k) bytes small h =
     (atoms-of-read k (drop 5 bytes) (bytes-drop 5 bytes small) (omega (arith, length-drop 5 bytes)))
     ∙ sym (take-add 5 (k * 5) bytes) ∙ ap (λ (j : ℕ). take j bytes) e
 
+-- a count, a set and positions
+count-of-rule : (len : ℕ) (content : List ℕ) → Every Byte content → 5 ≤ len → len ≤ length content → getD content 0 0 ∷ fourBytes (setAt content 1) ++ take (len - 5) (drop 5 content) ≡ take len content
+unfolding atomOf setAt
+count-of-rule len content small long h =
+    let whole : 5 + (len - 5) ≡ len = omega arith in
+    ap (λ (l : List ℕ). l ++ take (len - 5) (drop 5 content)) (atom-of-read content small (omega arith)) ∙ sym (take-add 5 (len - 5) content) ∙ ap (λ (j : ℕ). take j content) whole
+
 content-of-rule : (kind : Tag) (len : ℕ) (content : List ℕ) → Every Byte content → tagFault kind ≡ 0 → T (lengthFits kind len)
     → len ≤ length content → contentBytes (ruleOf kind len content) ≡ take len content
 unfolding ruleOf contentBytes tagFault atomsOf
@@ -93,6 +112,7 @@ content-of-rule Header len content small f t h = absurd (omega arith)
 content-of-rule Starting len content small f t h =
     let five = starting-length len t in
     atoms-of-read 1 content small (omega arith) ∙ ap (λ (j : ℕ). take j content) (sym five)
+content-of-rule AtMost len content small f t h = count-of-rule len content small (at-most-length len t) h
 content-of-rule Unknown len content small f t h = absurd (omega arith)
 content-of-rule Clause len content small f t h =
     let whole = clause-length len t in
@@ -108,7 +128,7 @@ tag-of-rule : (tag len : ℕ) (content : List ℕ) → tagFault (tagOf tag) ≡ 
 unfolding ruleOf tagByte tagFault
 tag-of-rule tag len content =
     tag-cases (λ byte kind. tagFault kind ≡ 0 → tagByte (ruleOf kind len content) ≡ byte)
-    (λ f. absurd (omega arith)) (λ f. refl) (λ f. refl) (λ f. refl) (λ byte f. absurd (omega arith)) tag
+    (λ f. absurd (omega arith)) (λ f. refl) (λ f. refl) (λ f. refl) (λ f. refl) (λ byte f. absurd (omega arith)) tag
 
 atoms-count : (k : ℕ) (bytes : List ℕ) → length (atomsOf k bytes) ≡ k
 unfolding atomsOf
@@ -126,6 +146,9 @@ length-of-rule Clause len content f t h =
 length-of-rule Equality len content f t h =
     let long = equality-length len t in
     omega (arith, length-take-le (len - 4) (drop 4 content) (omega (arith, length-drop 4 content)))
+length-of-rule AtMost len content f t h =
+    let long = at-most-length len t in
+    omega (arith, length-take-le (len - 5) (drop 5 content) (omega (arith, length-drop 5 content)))
 length-of-rule Starting len content f t h = omega (arith, starting-length len t, atoms-length (atomOf content ∷ []))
 
 -- ---- the bytes of a rule that was written, and what follows them
@@ -161,6 +184,16 @@ module _ (r : Rule) (rest : List ℕ) where
         rule-faultless = rw rule-of-written (f .2);
       }
 
+-- a count that was read is a byte
+count-of-read : (kind : Tag) (len : ℕ) (content : List ℕ) → Every Byte content → CountFits (ruleOf kind len content)
+unfolding ruleOf
+count-of-read Header len content small = tt
+count-of-read Clause len content small = tt
+count-of-read Equality len content small = tt
+count-of-read Starting len content small = tt
+count-of-read AtMost len content small = byte-at 0 content small
+count-of-read Unknown len content small = tt
+
 -- ---- bytes that start with a field without a fault
 
 module _ (v n : ℕ) (bytes : List ℕ) (field : SoundField v n bytes) where
@@ -193,6 +226,7 @@ module _ (v n : ℕ) (bytes : List ℕ) (field : SoundField v n bytes) where
 
     -- the rule is within the limits
     pub fits-of-read : RuleFits v n (ruleAt bytes)
+    unfolding contentOf ruleAt ruleOf
     fits-of-read =
         rule-fits v n (ruleAt bytes) .1
-        (rw (tag-of-content, length-of-content) (field .length-fits), omega (arith, length-of-content, length-below bytes small), field .rule-faultless)
+        (rw (tag-of-content, length-of-content) (field .length-fits), omega (arith, length-of-content, length-below bytes small), field .rule-faultless, count-of-read (tagOf (headOf bytes .tag)) (headOf bytes .length) (contentOf bytes) (bytes-drop 3 bytes small))

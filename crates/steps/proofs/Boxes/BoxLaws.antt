@@ -76,7 +76,7 @@ pub in-box-at : (a box : List ℕ) (i : ℕ) → InBox a box → i < length box 
 in-box-at a box i h l = paired-at in-box-paired a box i h (λ past. absurd (omega arith))
 
 -- an assignment with each value in its room lies in the box
-in-box-of : (a box : List ℕ) → length a ≡ length box → ((i : ℕ) → i < length box → member (getD a i 0) (getD box i 0)) → InBox a box
+pub in-box-of : (a box : List ℕ) → length a ≡ length box → ((i : ℕ) → i < length box → member (getD a i 0) (getD box i 0)) → InBox a box
 in-box-of = paired-of in-box-paired
 
 -- an assignment stays in the box where its value lies in the new room

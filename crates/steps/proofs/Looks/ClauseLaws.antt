@@ -21,7 +21,7 @@ use Rattle.steps.specs.Shrinking.{Look, dead, alive, united, isLive, liv
 use Rattle.steps.proofs.Boxes.BoxLaws.{in-box-at, box-inside-length, box-inside-at, box-inside-refl, box-inside-trans}
 use Rattle.steps.proofs.Boxes.BoxLaws.{rooms-at, shared-in-box, shared-inside, shared-rooms, shared-both-inside}
 use Rattle.steps.proofs.Looks.SixLaws.{Sound, Inward, Settling, Steady, Monotone, NotLive, Names}
-use Rattle.steps.proofs.Looks.InTurn.{dead-not-alive}
+use Rattle.steps.proofs.Looks.InTurn.{dead-not-alive, alive-once}
 use Rattle.steps.proofs.Looks.LiveLaws.{united-named, meets-united, live-of-shared, live-not-empty, shared-of-live, live-listed, live-rising}
 
 -- the atoms name positions 1 to v, and their sets are masks
@@ -72,10 +72,6 @@ clause-look place atoms box = go (liveFrom atoms 1 box) refl
     go (p ∷ q ∷ ps) e =
         more-live p q (live (p ∷ q ∷ ps) e p (List·Memᴰ·head refl)) (live (p ∷ q ∷ ps) e q (List·Memᴰ·tail (List·Memᴰ·head refl)))
         (subst (rising 0) e (live-rising atoms 0 1 box (omega arith)) .1 .0) (look (p ∷ q ∷ ps) e)
-
--- a look finds one box
-alive-once : (look : Look) (b c : List ℕ) → look ≡ alive b → look ≡ alive c → b ≡ c
-alive-once look b c e f = cc
 
 -- where a look is alive some position is live
 alive-live : (place : ℕ) (atoms : List Atom) (box box′ : List ℕ) → lookClause place atoms box ≡ alive box′ → (p : ℕ) × LiveIn atoms box p

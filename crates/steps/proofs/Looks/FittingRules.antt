@@ -6,7 +6,7 @@ use lib.ListN.{length}
 use Rattle.sets.specs.Sets.{full, single, values}
 use Rattle.sets.proofs.Sameness.{inside-below, full-below, single-below}
 use Rattle.lists.specs.Lists.{Every}
-use Rattle.rules.specs.Rules.{Rule, clause, equality, starting, Field, File}
+use Rattle.rules.specs.Rules.{Rule, clause, equality, starting, atMost, Field, File}
 use Rattle.rules.specs.Parts.{oneOf, atomIn, equalityParts, partsOf}
 use Rattle.rules.specs.Reading.{ruleFault, sound, reading}
 use Rattle.rules.specs.Sound.{fileOf, fieldsIn, SoundInput}
@@ -16,7 +16,7 @@ use Rattle.lists.proofs.ListLaws.{every-of-listed, every-over-append, every-ove
 use Rattle.rules.proofs.EqualityMeaning.{MaskFits}
 use Rattle.rules.proofs.Writing.PlaceLaws.{every-field}
 use Rattle.rules.proofs.Writing.WrittenLaws.{fits-faultless}
-use Rattle.rules.proofs.Reading.FaultlessLaws.{clause-fault-none, equality-fault-none, starting-fault-none}
+use Rattle.rules.proofs.Reading.FaultlessLaws.{clause-fault-none, equality-fault-none, starting-fault-none, at-most-fault-none}
 use Rattle.rules.proofs.Reading.RefusalLaws.{Faultless, read-faultless}
 use Rattle.steps.specs.Boxes.{BoxInside}
 use Rattle.steps.proofs.Boxes.BoxLaws.{same-length}
@@ -36,6 +36,7 @@ rule-mask : (v n : ℕ) (rule : Rule) → ruleFault v n rule ≡ 0 → MaskFits 
 rule-mask v n (clause atoms) e = tt
 rule-mask v n (equality m ps) e = set-below n m (equality-fault-none v n m ps .0 e .0)
 rule-mask v n (starting a) e = tt
+rule-mask v n (atMost k m ps) e = tt
 
 -- a clause that asks of some positions that they be in a mask fits
 atoms-fit : (v m : ℕ) (ps : List ℕ) → Every (PositionFits v) ps → m < 2 ^ 32 → ClauseFits v (map (atomIn m) ps)
@@ -51,6 +52,7 @@ parts-fit v n (clause atoms) e = (
   tt,
 )
 parts-fit v n (starting a) e = ((atom-fits v n a (starting-fault-none v n a .0 e .0), tt), tt)
+parts-fit v n (atMost k m ps) e = (at-most-fault-none v n k m ps .0 e .1, tt)
 parts-fit v n (equality m ps) e =
     every-over-append (PartFits v) (map (λ p. oneOf (atomIn m p ∷ [])) ps) (map (λ x. oneOf (map (atomIn (single x)) ps)) (values m)) .1 (named, taken)
   where

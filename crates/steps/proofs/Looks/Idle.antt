@@ -1,3 +1,4 @@
+pub mod AtMost
 pub mod ButForIdle
 pub mod Clauses
 pub mod Shrinking

@@ -29,6 +29,19 @@ Spares Q look = (box : List ℕ) → Q box → (box′ : List ℕ) × (look box 
 pub dead-not-alive : (l : Look) (p : ℕ) (box : List ℕ) → l ≡ dead p → l ≡ alive box → ⊥
 dead-not-alive l p box d a = let z : _≡_ {A = ℕ} 0 1 = cc in omega arith
 
+-- a look finds one box
+pub alive-once : (l : Look) (b c : List ℕ) → l ≡ alive b → l ≡ alive c → b ≡ c
+alive-once l b c e f = cc
+
+-- a look at one alone
+pub in-turn-one : {A : Type 0} (look : A → List ℕ → Look) (x : A) (box : List ℕ) → inTurn look (x ∷ []) box ≡ look x box
+unfolding inTurn
+in-turn-one look x box = go (look x box)
+  where
+    go : (l : Look) → (ifAlive l (λ p. dead p) λ b. alive b) ≡ l
+    go (dead p) = refl
+    go (alive b) = refl
+
 -- a look that leaves a smaller box leaves one that lies in all that the first lay in
 pub inward-from : (look : List ℕ → Look) (box : List ℕ) → Inward look → Rooms box → Keeps (λ c. BoxInside c box × Rooms c) look
 inward-from look box inward rooms b c q e = let i = inward b c (q .1) e in (box-inside-trans c b box (i .0) (q .0), i .1)

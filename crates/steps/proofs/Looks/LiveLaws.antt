@@ -5,13 +5,13 @@ use mathlib.Core.Bool.{Bool, true, false}
 use mathlib.Core.List.{List, [], _∷_, List·Memᴰ, List·Memᴰ·head, List·Memᴰ·tail, List·Memᴰ·not-nil, List·Memᴰ·cases-cons}
 use Prim.Native.Nat.{ℕ, zero, suc, _+_, _-_, _^_, _<_}
 use native.Mathlib.Omega.{arith}
-use lib.Dec.{T, eqb, T-not, not-T}
+use lib.Dec.{T, eqb, T-not}
 use lib.ListN.{length, getD}
-use Rattle.sets.specs.Sets.{member, common, isEmpty, rising, smallest}
-use Rattle.sets.proofs.Members.{member-empty, member-union, member-common}
+use Rattle.sets.specs.Sets.{member, common, isEmpty, rising}
+use Rattle.sets.proofs.Members.{member-empty, member-union}
 use Rattle.lists.proofs.TestLaws.{test-true, test-same, test-cases}
-use Rattle.sets.proofs.Sameness.{common-below, empty-test}
-use Rattle.sets.proofs.Smallest.{smallest-member}
+use Rattle.sets.proofs.Sameness.{empty-test}
+use Rattle.sets.proofs.Outside.{meets-of-shared, shared-of-meets}
 use Rattle.lists.proofs.ListLaws.{either-same}
 use Rattle.rules.specs.declared.field.Atom.{Atom}
 use Rattle.lists.specs.Lists.{Some}
@@ -65,11 +65,7 @@ meets-united a atoms = (forth, back)
 -- a position is live where its room and its union share a value
 pub live-of-shared : (atoms : List Atom) (p room x : ℕ) → member x room → member x (united p atoms) → T (isLive atoms p room)
 unfolding isLive
-live-of-shared atoms p room x t u =
-    not-T (isEmpty shared) (λ e. member-empty x (subst (λ (m : ℕ). member x m) (empty-test shared .0 e) (member-common x room (united p atoms) .1 (t, u))))
-  where
-    shared : ℕ
-    shared = common room (united p atoms)
+live-of-shared atoms p room x t u = meets-of-shared room (united p atoms) x t u
 
 -- what a live position's room shares with its union is not empty
 pub live-not-empty : (atoms : List Atom) (p room : ℕ) → T (isLive atoms p room) → common room (united p atoms) ≡ 0 → ⊥
@@ -78,10 +74,8 @@ live-not-empty atoms p room t e = T-not (isEmpty (common room (united p atoms)))
 
 -- a live position's room and its union share a value
 pub shared-of-live : (atoms : List Atom) (p room : ℕ) → room < 2 ^ 32 → T (isLive atoms p room) → (x : ℕ) × member x room × member x (united p atoms)
-shared-of-live atoms p room h t =
-    let m = common room (united p atoms) in
-    let both = member-common (smallest m) room (united p atoms) .0 (smallest-member m (common-below room (united p atoms) h) (live-not-empty atoms p room t)) in
-    (smallest m, both .0, both .1)
+unfolding isLive
+shared-of-live atoms p room h t = shared-of-meets room (united p atoms) h t
 
 -- ---- the list of live positions
 

@@ -12,7 +12,7 @@ use Rattle.sets.proofs.Members.{member-single}
 use Rattle.sets.proofs.Counting.{count-of-single}
 use Rattle.sets.proofs.Smallest.{smallest-range}
 use Rattle.rules.specs.declared.field.Atom.{Atom}
-use Rattle.rules.specs.Rules.{Rule, Field, clause, equality, starting}
+use Rattle.rules.specs.Rules.{Rule, Field, clause, equality, starting, atMost}
 use Rattle.rules.specs.Meaning.{Meets, MeetsFields}
 use Rattle.rules.specs.Parts.{oneOf, partsOf}
 use Rattle.lists.proofs.ListLaws.{every-of-listed, every-at}
@@ -51,6 +51,7 @@ module _ (start : List ℕ) (first : Rooms start) (box : List ℕ) (rooms : Room
   unfolding specialRule partsOf
   special-rule-least place (clause atoms) t e = special-clause-least place atoms (special-few (length start) start atoms t) e
   special-rule-least place (equality m ps) t e = absurd t
+  special-rule-least place (atMost k m ps) t e = absurd t
   special-rule-least place (starting a) t e = ⊎-elim (λ h. h) absurd (special-clause-least place (a ∷ []) (one-atom-few start a (length start) first) e)
 
   -- once shrinking is over and the box lives, the smallest value of every room is a plan

@@ -1,6 +1,6 @@
 -- Demand 3's special kind in 01's and R-6's words: `special-exactly`, which of the starred cases are of that kind, and a starting set with gaps. Assumes nothing.
-use mathlib.Core.Path.{_≡_, refl, subst}
-use mathlib.Core.Logic.{_↔_, _⊎_, inl, inr, Iff·and, Iff·not, Iff·trans}
+use mathlib.Core.Path.{_≡_, refl, ap, subst}
+use mathlib.Core.Logic.{_↔_, _⊎_, inl, inr, ⊎-elim, Iff·and, Iff·not, Iff·trans}
 use mathlib.Core.Bool.{Bool, true, false}
 use mathlib.Core.List.{List, [], _∷_}
 use Prim.Native.Nat.{ℕ, _-_, _≤_}
@@ -11,8 +11,8 @@ use Rattle.sets.specs.Sets.{full, union, common, complement, inRange, onlyIf, i
 use Rattle.sets.specs.Promise.{oneIf}
 use Rattle.rules.specs.declared.field.Atom.{Atom}
 use Rattle.lists.specs.Lists.{Every}
-use Rattle.rules.specs.Rules.{Rule, Field, File, clause, equality, starting}
-use Rattle.rules.specs.Writing.{placed, fieldsOf}
+use Rattle.rules.specs.Rules.{Rule, Field, File, clause, equality, starting, atMost}
+use Rattle.rules.specs.Writing.{tagByte, placed, fieldsOf}
 use Rattle.rules.specs.Reading.{Reading, sound, refused}
 use Rattle.rules.specs.Reading.{tagOf, lengthAt, setAt, atomOf, headOf, contentOf, atomsOf, ruleOf, lengthFits, tagFault, bodyFault, headerBodyFault, positionFault, setFault, atomFault, atomsFault, positionsFault, ruleFault, ruleAt, fieldFault, againFault, faultAfter, limitsFit, headerFault, sizeOf, readFields, reading}
 use Rattle.lists.proofs.TestLaws.{both-hold}
@@ -45,6 +45,12 @@ special-few v start atoms t = omega (arith, leb→le (oddSets v start atoms) _ t
 abbrev pub SpecialRule : ℕ → List ℕ → Rule → Type 0
 SpecialRule v start rule = ((a : Atom) × (rule ≡ starting a)) ⊎ ((atoms : List Atom) × (rule ≡ clause atoms) × OneNoLadder v start atoms)
 
+-- so its tag is 2 or 4
+special-tag : (v : ℕ) (start : List ℕ) (rule : Rule) → SpecialRule v start rule → (tagByte rule ≡ 2) ⊎ (tagByte rule ≡ 4)
+unfolding tagByte
+special-tag v start rule (inl (a, e)) = inr (ap tagByte e)
+special-tag v start rule (inr (atoms, e, one)) = inl (ap tagByte e)
+
 module _ (v : ℕ) (start : List ℕ) (first : Rooms start) where
   -- at most one is counted exactly if at most one has such a set
   few-exactly : (atoms : List Atom) → (oddSets v start atoms ≤ 1) ↔ OneNoLadder v start atoms
@@ -69,18 +75,15 @@ module _ (v : ℕ) (start : List ℕ) (first : Rooms start) where
 
   -- the test of a rule holds exactly of these
   pub special-rule-exactly : (rule : Rule) → T (specialRule v start rule) ↔ SpecialRule v start rule
-  unfolding specialRule
+  unfolding specialRule tagByte
   special-rule-exactly (clause atoms) = (λ t. inr (atoms, refl, few-exactly atoms .0 (special-few v start atoms t)), back)
     where
       back : SpecialRule v start (clause atoms) → T (specialRule v start (clause atoms))
-      back (inl (a, e)) = let clash : _≡_ {A = ℕ} 0 1 = cc in absurd (omega arith)
+      back (inl (a, e)) = absurd (omega (arith, ap tagByte e))
       back (inr (some, e, one)) = let same : some ≡ atoms = cc in le→leb (oddSets v start atoms) _ (few-exactly atoms .1 (subst (OneNoLadder v start) same one))
-  special-rule-exactly (equality m ps) = (absurd, back)
-    where
-      back : SpecialRule v start (equality m ps) → ⊥
-      back (inl (a, e)) = let clash : _≡_ {A = ℕ} 0 1 = cc in omega arith
-      back (inr (atoms, e, one)) = let clash : _≡_ {A = ℕ} 0 1 = cc in omega arith
+  special-rule-exactly (equality m ps) = (absurd, λ s. ⊎-elim (λ e. absurd (omega arith)) (λ e. absurd (omega arith)) (special-tag v start (equality m ps) s))
   special-rule-exactly (starting a) = (λ t. inl (a, refl), λ s. tt)
+  special-rule-exactly (atMost k m ps) = (absurd, λ s. ⊎-elim (λ e. absurd (omega arith)) (λ e. absurd (omega arith)) (special-tag v start (atMost k m ps) s))
 
   -- of every rule in turn
   special-rules-exactly : (fields : List Field) → T (specialRules v start fields) ↔ Every (λ f. SpecialRule v start (f .rule)) fields

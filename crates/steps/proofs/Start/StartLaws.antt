@@ -13,7 +13,7 @@ use Rattle.sets.proofs.Members.{member-positive, member-power, member-union}
 use Rattle.sets.proofs.Sameness.{inside-refl}
 use Rattle.lists.specs.Lists.{Every}
 use Rattle.lists.proofs.ListLaws.{every-map}
-use Rattle.rules.specs.Rules.{Rule, File, clause, equality, starting}
+use Rattle.rules.specs.Rules.{Rule, File, clause, equality, starting, atMost}
 use Rattle.rules.specs.Reading.{ruleFault, withPosition, seenWith}
 use Rattle.rules.specs.Meaning.{Assignment, Meets, MeetsAll}
 use Rattle.rules.specs.UpTo.{fieldsUpTo, rulesOf, onlyStarts, upTo}
@@ -42,6 +42,7 @@ unfolding startBy withRoom
 by-length v (clause atoms) box e = e
 by-length v (equality m ps) box e = e
 by-length v (starting a) box e = length-set box (a .position - 1) (a .set) ∙ e
+by-length v (atMost k m ps) box e = e
 
 -- no room becomes empty
 by-rooms : (v n : ℕ) (rule : Rule) → ruleFault v n rule ≡ 0 → (box : List ℕ) → Rooms box → Rooms (startBy rule box)
@@ -51,6 +52,7 @@ by-rooms v n (equality m ps) none box rooms = rooms
 by-rooms v n (starting a) none box rooms =
     let fits = starting-fault-none v n a .0 none in
     rooms-set box (a .position - 1) (a .set) rooms (set-below n (a .set) (fits .0 .1)) (fits .1)
+by-rooms v n (atMost k m ps) none box rooms = rooms
 
 -- each of v rooms {1..n} is {1..n}
 full-at : (v n i : ℕ) → i < v → getD (startBox v n) i 0 ≡ full n
@@ -70,6 +72,7 @@ by-inside v n (starting a) none box within =
     let whole = startBox v n in
     box-inside-trans (set box i (a .set)) (set whole i (a .set)) whole (set-both-inside box whole i (a .set) (a .set) within (inside-refl (a .set)))
     (set-inside whole i (a .set) (subst (λ (m : ℕ). T (inside (a .set) m)) (sym (full-at v n i (omega (arith, fits .0)))) (fits .1)))
+by-inside v n (atMost k m ps) none box within = within
 
 -- an assignment that meets the rule stays in the box
 by-assigned : (a : List ℕ) (rule : Rule) → Meets a rule → (box : List ℕ) → InBox a box → InBox a (startBy rule box)
@@ -77,6 +80,7 @@ unfolding startBy withRoom
 by-assigned a (clause atoms) met box h = h
 by-assigned a (equality m ps) met box h = h
 by-assigned a (starting atom) met box h = in-box-set a box (atom .position - 1) (atom .set) h met
+by-assigned a (atMost k m ps) met box h = h
 
 -- ---- all rules of a file
 
@@ -144,12 +148,14 @@ unfolding seenWith withPosition
 still-seen (clause atoms) p seen t = t
 still-seen (equality m ps) p seen t = t
 still-seen (starting a) p seen t = member-union p seen (2 ^ (a .position - 1)) .1 (inl t)
+still-seen (atMost k m ps) p seen t = t
 
 -- the rule is no starting set of the position
 abbrev pub NoStartOf : ℕ → Rule → Type 0
 NoStartOf p (clause atoms) = Unit {0}
 NoStartOf p (equality m ps) = Unit {0}
 NoStartOf p (starting a) = a .position ≡ p → ⊥
+NoStartOf p (atMost k m ps) = Unit {0}
 
 -- such a rule leaves the position its room
 by-others : (v n : ℕ) (rule : Rule) (p : ℕ) → RuleFits v n rule → 1 ≤ p → NoStartOf p rule → (box : List ℕ) → roomAt (startBy rule box) p ≡ roomAt box p
@@ -157,18 +163,21 @@ unfolding startBy withRoom roomAt
 by-others v n (clause atoms) p fits low other box = refl
 by-others v n (equality m ps) p fits low other box = refl
 by-others v n (starting a) p fits low other box = getD-set-other box (a .position - 1) (p - 1) (a .set) 0 (λ e. other (omega (arith, fits .0 .0)))
+by-others v n (atMost k m ps) p fits low other box = refl
 
 -- a rule that is no starting set of a position seen is none of each of them
 none-of-seen : (rule : Rule) (p seen : ℕ) → Unseen seen rule → member p seen → NoStartOf p rule
 none-of-seen (clause atoms) p seen new t = tt
 none-of-seen (equality m ps) p seen new t = tt
 none-of-seen (starting a) p seen new t = λ e. new (subst (λ (q : ℕ). member q seen) (sym e) t)
+none-of-seen (atMost k m ps) p seen new t = tt
 
 -- the room of a position is the starting set that a rule gives it
 abbrev pub StartsWith : List ℕ → Rule → Type 0
 StartsWith box (clause atoms) = Unit {0}
 StartsWith box (equality m ps) = Unit {0}
 StartsWith box (starting a) = roomAt box (a .position) ≡ a .set
+StartsWith box (atMost k m ps) = Unit {0}
 
 module _ (v n : ℕ) where
   -- positions seen keep their rooms
@@ -185,6 +194,7 @@ module _ (v n : ℕ) where
   unfolding startBy seenWith withRoom roomAt
   own-first (clause atoms) rs seen box long fit fits one = tt
   own-first (equality m ps) rs seen box long fit fits one = tt
+  own-first (atMost k m ps) rs seen box long fit fits one = tt
   own-first (starting a) rs seen box long fit fits one =
       stays rs (withPosition (a .position) seen) (set box (a .position - 1) (a .set)) (a .position) fits one (added (a .position) seen (fit .0 .0 .0))
       ∙ getD-set-same box (a .position - 1) (a .set) 0 (omega (arith, fit .0 .0))
@@ -220,6 +230,7 @@ abbrev pub NoStart : Rule → Type 0
 NoStart (clause atoms) = Unit {0}
 NoStart (equality m ps) = Unit {0}
 NoStart (starting a) = ⊥
+NoStart (atMost k m ps) = Unit {0}
 
 -- it leaves every room
 by-none : (rule : Rule) → NoStart rule → (box : List ℕ) → startBy rule box ≡ box
@@ -227,6 +238,7 @@ unfolding startBy
 by-none (clause atoms) plain box = refl
 by-none (equality m ps) plain box = refl
 by-none (starting a) plain box = absurd plain
+by-none (atMost k m ps) plain box = refl
 
 -- where no rule is one, each room is {1..n}
 pub start-plain : (file : File) → Every NoStart (file .rules) → startOf file ≡ startBox (file .v) (file .n)
@@ -250,6 +262,7 @@ starts-only [] box = refl
 starts-only (clause atoms ∷ rules) box = starts-only rules box
 starts-only (equality m ps ∷ rules) box = starts-only rules box
 starts-only (starting a ∷ rules) box = starts-only rules (startBy (starting a) box)
+starts-only (atMost k m ps ∷ rules) box = starts-only rules box
 
 -- a file that is cut behind a field, with all of its starting sets, starts as the file does
 pub start-up-to : (place : ℕ) (file : File) → startOf (upTo place file) ≡ startOf file

@@ -13,7 +13,7 @@ use Rattle.lists.specs.Lists.{Every}
 use Rattle.lists.proofs.ListLaws.{every-at, every-map-listed}
 use Rattle.lists.proofs.TestLaws.{both-hold}
 use Rattle.rules.specs.declared.field.Atom.{Atom}
-use Rattle.rules.specs.Rules.{Rule, Field, File, clause, equality, starting}
+use Rattle.rules.specs.Rules.{Rule, Field, File, clause, equality, starting, atMost}
 use Rattle.rules.specs.Parts.{Part, partsOf}
 use Rattle.rules.specs.Writing.{Within}
 use Rattle.rules.proofs.Writing.PlaceLaws.{every-field}
@@ -49,12 +49,14 @@ abbrev pub Unmoved : List ℕ → Rule → Type 0
 Unmoved box (clause atoms) = Unit {0}
 Unmoved box (equality m ps) = Unit {0}
 Unmoved box (starting a) = T (settledRule box (starting a)) × ((place : ℕ) → lookRule place (starting a) box ≡ alive box)
+Unmoved box (atMost k m ps) = Unit {0}
 
 -- so it is where the rooms lie inside a box that has the starting set for its position
 unmoved : (start box : List ℕ) (rule : Rule) → Rooms box → BoxInside box start → Fits (length box) rule → StartsWith start rule → Unmoved box rule
 unfolding partsOf roomAt allOf inTurn
 unmoved start box (clause atoms) rooms within fits own = tt
 unmoved start box (equality m ps) rooms within fits own = tt
+unmoved start box (atMost k m ps) rooms within fits own = tt
 unmoved start box (starting a) rooms within fits own =
     let room = roomAt box (a .position) in
     let t : T (inside room (a .set)) = subst (λ (m : ℕ). T (inside room m)) own (box-inside-at box start (a .position - 1) within) in

@@ -2,7 +2,7 @@
 use mathlib.Core.Path.{sym, _∙_}
 use Prim.Native.Nat.{_+_}
 use native.Mathlib.Omega.{arith}
-use Rattle.rules.specs.declared.field.Tag.the-variants.{Header, Clause, Equality, Starting, Unknown}
+use Rattle.rules.specs.declared.field.Tag.the-variants.{Header, Clause, Equality, Starting, AtMost, Unknown}
 use Rattle.rules.proofs.Reading.WalkLaws.{partFrom, FieldHere, walk-head, walk-field}
 use Rattle.boxes.proofs.FieldLooks.{look-there, look-clause-there, look-start-there}
 use borrow.Author.Needs.{needs}
@@ -58,6 +58,12 @@ look-atoms-requires-2 c κs = let read = c .before .before .before .before in he
 enum-told-5 : tie.Need-enum-told-5
 enum-told-5 c = search needs
 
+look-at-most-requires : tie.Need-look-at-most-requires
+look-at-most-requires c κs = let read = c .before .before .before .before in (here read .there, here read .fits AtMost (sym (read .tag-of .ensures) ∙ c .before .enum-told5 .given .1))
+
+enum-told-6 : tie.Need-enum-told-6
+enum-told-6 c = search needs
+
 returns : tie.Need-returns
 returns c = let read = c .before .before .before in absurd (here read .fits Header (sym (read .tag-of .ensures) ∙ c .enum-told .given .1))
 
@@ -71,7 +77,10 @@ returns-4 : tie.Need-returns-4
 returns-4 c = let read = c .before .before .before .before .before in look-start-there (here read) (sym (read .tag-of .ensures) ∙ c .before .before .enum-told4 .given .1) (c .look-atoms2 .ensures .leaves)
 
 returns-5 : tie.Need-returns-5
-returns-5 c = let read = c .before .before .before in absurd (here read .fits Unknown (sym (read .tag-of .ensures) ∙ c .enum-told5 .given .1))
+returns-5 c = let read = c .before .before .before .before .before in look-there (here read) AtMost (sym (read .tag-of .ensures) ∙ c .before .before .enum-told5 .given .1) (c .look-at-most .ensures .leaves)
+
+returns-6 : tie.Need-returns-6
+returns-6 c = let read = c .before .before .before in absurd (here read .fits Unknown (sym (read .tag-of .ensures) ∙ c .enum-told6 .given .1))
 
 pub look-field-spec : {M : Type 1} → statement M
 look-field-spec =
@@ -91,8 +100,11 @@ look-field-spec =
     enum-told-4
     look-atoms-requires-2
     enum-told-5
+    look-at-most-requires
+    enum-told-6
     returns
     returns-2
     returns-3
     returns-4
-    returns-5)
+    returns-5
+    returns-6)

@@ -18,7 +18,7 @@ use Rattle.rules.specs.Reading.{tagOf}
 use Rattle.rules.proofs.Reading.WalkLaws.{partFrom, FieldHere, sound-limits, walk-start, walk-head, walk-field}
 use Rattle.clauses.proofs.AtomsInTurn.{atom-there, atom-fits}
 use Rattle.clauses.proofs.SettledClauses.{set-settles}
-use Rattle.choosing.proofs.LiveAtoms.{AtomsLeft, atoms-left-start, atoms-left-lower, atoms-left-on, clause-shut, clause-dull, clause-open}
+use Rattle.lowest.proofs.LiveAtoms.{AtomsLeft, atoms-left-start, atoms-left-lower, atoms-left-on, clause-shut, clause-dull, clause-open}
 use Rattle.choosing.proofs.ChosenFields.{FieldsLeft, fields-left-start, fields-left-none, fields-left-narrow, fields-left-on}
 use Rattle.choosing.proofs.choose.choose.Statement.{statement}
 use Rattle.choosing.proofs.choose.choose.Tie as tie
@@ -202,7 +202,7 @@ fields-again-3 c =
 lowest-by-kind-requires : tie.Need-lowest-by-kind-requires Inv-loop μ-loop Inv-fields μ-fields
 lowest-by-kind-requires c κs =
     let h = c .before in
-    let others : List ℕ = 0 ∷ 2 ∷ 3 ∷ 4 ∷ [] in
+    let others : List ℕ = 0 ∷ 2 ∷ 3 ∷ 4 ∷ 5 ∷ [] in
     (λ e. miss others 1 tt (subst (λ (kind : Tag). OneOf others (variant the-type kind)) e (c .match .keys2)), field (headed h) .there, fits h _ refl)
 
 fields-less-4 : tie.Need-fields-less-4 Inv-loop μ-loop Inv-fields μ-fields

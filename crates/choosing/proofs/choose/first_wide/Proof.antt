@@ -10,7 +10,7 @@ use Rattle.lists.proofs.LowestLaws.{lowest-is}
 use Rattle.lists.proofs.TestLaws.{le-holds}
 use Rattle.sets.specs.Sets.{count}
 use Rattle.steps.specs.Boxes.{wide}
-use Rattle.choosing.specs.LowestBy.{Masks}
+use Rattle.lowest.specs.LowestBy.{Masks}
 use Rattle.choosing.proofs.choose.first_wide.Statement.{statement}
 use Rattle.choosing.proofs.choose.first_wide.Tie as tie
 

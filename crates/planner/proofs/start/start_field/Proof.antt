@@ -3,7 +3,7 @@ use mathlib.Core.Path.{_≡_, refl, sym, _∙_}
 use Prim.Native.Nat.{_+_}
 use native.Mathlib.Omega.{arith}
 use Rattle.rules.specs.declared.field.Tag.{Tag}
-use Rattle.rules.specs.declared.field.Tag.the-variants.{Header, Clause, Equality, Starting, Unknown}
+use Rattle.rules.specs.declared.field.Tag.the-variants.{Header, Clause, Equality, Starting, AtMost, Unknown}
 use Rattle.rules.specs.Reading.{tagOf, ruleOf}
 use Rattle.rules.specs.Writing.{PositionFits}
 use Rattle.rules.proofs.Reading.WalkLaws.{partFrom, FieldHere, walk-head, walk-field}
@@ -65,6 +65,9 @@ enum-told-4 c = search needs
 enum-told-5 : tie.Need-enum-told-5
 enum-told-5 c = search needs
 
+enum-told-6 : tie.Need-enum-told-6
+enum-told-6 c = search needs
+
 returns : tie.Need-returns
 returns c = let told = c .before .before in let read = told .before .before in start-put (here read) (kind-is read Starting (told .enum-told .given .1)) (c .before .atom-at .ensures) _
 
@@ -82,7 +85,11 @@ returns-4 c = let read = c .before .before in start-other (here read) Equality (
 
 returns-5 : tie.Need-returns-5
 unfolding startBy ruleOf
-returns-5 c = let read = c .before .before in start-other (here read) Unknown (kind-is read Unknown (c .enum-told5 .given .1)) _ refl
+returns-5 c = let read = c .before .before in start-other (here read) AtMost (kind-is read AtMost (c .enum-told5 .given .1)) _ refl
+
+returns-6 : tie.Need-returns-6
+unfolding startBy ruleOf
+returns-6 c = let read = c .before .before in start-other (here read) Unknown (kind-is read Unknown (c .enum-told6 .given .1)) _ refl
 
 pub start-field-spec : {M : Type 1} → statement M
 start-field-spec =
@@ -101,8 +108,10 @@ start-field-spec =
     enum-told-3
     enum-told-4
     enum-told-5
+    enum-told-6
     returns
     returns-2
     returns-3
     returns-4
-    returns-5)
+    returns-5
+    returns-6)

@@ -26,7 +26,13 @@ unfolding tagOf
 returns-5 c = sym (ap tagOf (c .match .keys5))
 
 returns-6 : tie.Need-returns-6
-returns-6 c = sym (tag-unknown (c .before .args .tag) (c .match .rest .0 .0 .0 .0 .1) (c .match .rest .0 .0 .0 .1) (c .match .rest .0 .0 .1) (c .match .rest .0 .1))
+unfolding tagOf
+returns-6 c = sym (ap tagOf (c .match .keys6))
+
+returns-7 : tie.Need-returns-7
+returns-7 c =
+    let none = c .match .rest .0 in
+    sym (tag-unknown (c .before .args .tag) (none .0 .0 .0 .0 .1) (none .0 .0 .0 .1) (none .0 .0 .1) (none .0 .1) (none .1))
 
 pub tag-of-spec : {M : Type 1} → statement M
-tag-of-spec = tie.close (tie.spec returns returns-2 returns-3 returns-4 returns-5 returns-6)
+tag-of-spec = tie.close (tie.spec returns returns-2 returns-3 returns-4 returns-5 returns-6 returns-7)

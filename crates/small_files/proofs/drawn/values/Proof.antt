@@ -7,6 +7,6 @@ use Rattle.small_files.proofs.drawn.values.Tie as tie
 pub values-spec : {M : Type 1} → statement M
 values-spec =
     tie.close
-    (tie.spec (λ state₀ n density mask₀ left₀ state mask left. mask ≤ 4294967295)
-    (λ state₀ n density mask₀ left₀ state mask left. left) (search needs) (search needs) (search needs) (search needs)
+    (tie.spec (λ state₀ n density sure mask₀ left₀ state mask left. mask ≤ 4294967295)
+    (λ state₀ n density sure mask₀ left₀ state mask left. left) (search needs) (search needs) (search needs) (search needs)
     (search needs) (search needs) (search needs) (search needs))

@@ -9,4 +9,4 @@ use Rattle.small_files.proofs.drawn.write_start.Tie as tie
 pub write-start-spec : {M : Type 1} → statement M
 write-start-spec =
     tie.close
-    (tie.spec (search needs) (search needs) (search needs) (search needs) (search needs) (search needs) (search needs) (λ c. sym (length-take-le _ _ (omega arith))) (search needs) (search needs) (search needs) (search needs) (search needs) (search needs) (search needs) (search needs))
+    (tie.spec (search needs) (search needs) (search needs) (search needs) (search needs) (search needs) (search needs) (search needs) (search needs) (search needs) (λ c. sym (length-take-le _ _ (omega arith))) (search needs) (search needs) (search needs) (search needs) (search needs) (search needs) (search needs) (search needs))

@@ -7,4 +7,4 @@ use Rattle.small_files.proofs.starting.most_rounds.Tie as tie
 pub most-rounds-spec : {M : Type 1} → statement M
 most-rounds-spec =
     tie.close
-    (tie.spec (λ sets v most₀ i₀ most i. (i ≤ v) × (most ≤ 32 * i + 1)) (λ sets v most₀ i₀ most i. v - i) (search needs) (search needs) (search needs) (search needs) (search needs) (search needs) (search needs) (search needs) (search needs))
+    (tie.spec (λ sets v most₀ i₀ most i. (i ≤ v) × (most ≤ 32 * i + 1)) (λ sets v most₀ i₀ most i. v - i) (search needs) (search needs) (search needs) (search needs) (search needs) (search needs) (search needs) (search needs) (search needs) (search needs))

@@ -10,5 +10,4 @@ pub write-field-spec : {M : Type 1} → statement M
 write-field-spec =
     tie.close
     (tie.spec (λ file₀ at field end₀ rest₀ file end rest. (end ≤ length file) × (length file ≡ length file₀))
-    (λ file₀ at field end₀ rest₀ file end rest. rest) (search needs) (search needs) (search needs) (search needs)
-    (search needs) (search needs) (search needs) (search needs) (search needs) (search needs) (search needs))
+    (λ file₀ at field end₀ rest₀ file end rest. rest) (search needs) (search needs) (search needs) (search needs) (search needs) (search needs) (search needs) (search needs) (search needs) (search needs) (search needs) (search needs) (search needs) (search needs))

@@ -1,4 +1,4 @@
--- `small_files::trying::all` is safe and ends. The family is at most 15, and the measure is how many families are left. Assumes nothing.
+-- `small_files::trying::all` is safe and ends. The family is at most 21, and the measure is how many families are left. Assumes nothing.
 use Prim.Native.Nat.{_≤_, _-_}
 use borrow.Author.Needs.{needs}
 use Rattle.small_files.proofs.trying.all.Statement.{statement}
@@ -7,6 +7,6 @@ use Rattle.small_files.proofs.trying.all.Tie as tie
 pub all-spec : {M : Type 1} → statement M
 all-spec =
     tie.close
-    (tie.spec (λ tally₀ state₀ family₀ tally state family. family ≤ 15)
-    (λ tally₀ state₀ family₀ tally state family. 15 - family) (search needs) (search needs) (search needs)
+    (tie.spec (λ tally₀ state₀ family₀ tally state family. family ≤ 21)
+    (λ tally₀ state₀ family₀ tally state family. 21 - family) (search needs) (search needs) (search needs)
     (search needs) (search needs) (search needs) (search needs) (search needs))

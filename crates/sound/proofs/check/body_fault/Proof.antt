@@ -18,7 +18,7 @@ unfolding bodyFault
 returns-2 c = simp (sym (c .before .before .length-fits .ensures) ∙ not-false _ (c .before .if1 .left), lt-ltb _ _ (c .if2 .taken))
 
 content-fault-requires : tie.Need-content-fault-requires
-content-fault-requires c κs = (sym (c .before .before .length-fits .ensures) ∙ not-false _ (c .before .if1 .left), c .if2 .left)
+content-fault-requires c κs = (sym (c .before .before .length-fits .ensures) ∙ not-false _ (c .before .if1 .left), (c .if2 .left, c .before .before .before .before .pre))
 
 returns-3 : tie.Need-returns-3
 unfolding bodyFault

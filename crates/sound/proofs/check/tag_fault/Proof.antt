@@ -20,6 +20,9 @@ enum-told-4 c = search needs
 enum-told-5 : tie.Need-enum-told-5
 enum-told-5 c = search needs
 
+enum-told-6 : tie.Need-enum-told-6
+enum-told-6 c = search needs
+
 returns : tie.Need-returns
 unfolding tagFault
 returns c = sym (ap tagFault (c .enum-told .given .1))
@@ -40,7 +43,23 @@ returns-5 : tie.Need-returns-5
 unfolding tagFault
 returns-5 c = sym (ap tagFault (c .enum-told5 .given .1))
 
+returns-6 : tie.Need-returns-6
+unfolding tagFault
+returns-6 c = sym (ap tagFault (c .enum-told6 .given .1))
+
 pub tag-fault-spec : {M : Type 1} → statement M
 tag-fault-spec =
     tie.close
-    (tie.spec enum-told enum-told-2 enum-told-3 enum-told-4 enum-told-5 returns returns-2 returns-3 returns-4 returns-5)
+    (tie.spec
+    enum-told
+    enum-told-2
+    enum-told-3
+    enum-told-4
+    enum-told-5
+    enum-told-6
+    returns
+    returns-2
+    returns-3
+    returns-4
+    returns-5
+    returns-6)

@@ -1,7 +1,7 @@
 -- `sound::starts::again_fault` meets its contract: a second starting set of a position is one where the position is marked. Assumes nothing.
 use mathlib.Core.Path.{sym, _∙_}
 use native.Mathlib.Omega.{arith}
-use Rattle.sound.proofs.FaultLaws.{fault-so, fault-not}
+use Rattle.contents.proofs.FaultLaws.{fault-so, fault-not}
 use Rattle.sound.proofs.StartedLaws.{again-none, again-at}
 use borrow.Author.Needs.{needs}
 use Rattle.sound.proofs.starts.again_fault.Statement.{statement}

@@ -45,6 +45,9 @@ enum-told-4 c = search needs
 enum-told-5 : tie.Need-enum-told-5
 enum-told-5 c = search needs
 
+enum-told-6 : tie.Need-enum-told-6
+enum-told-6 c = search needs
+
 returns : tie.Need-returns
 returns c = let kind = c .before .before .before in (started-is _ (kind .tag-of .ensures) (c .before .enum-told .given .1), there (c .before) .1 .1)
 
@@ -64,6 +67,10 @@ returns-5 : tie.Need-returns-5
 unfolding startedBy ruleOf
 returns-5 c = (started-none _ (c .before .before .tag-of .ensures) (c .enum-told5 .given .1) refl, omega arith)
 
+returns-6 : tie.Need-returns-6
+unfolding startedBy ruleOf
+returns-6 c = (started-none _ (c .before .before .tag-of .ensures) (c .enum-told6 .given .1) refl, omega arith)
+
 pub started-spec : {M : Type 1} → statement M
 started-spec =
     tie.close
@@ -77,8 +84,10 @@ started-spec =
     enum-told-3
     enum-told-4
     enum-told-5
+    enum-told-6
     returns
     returns-2
     returns-3
     returns-4
-    returns-5)
+    returns-5
+    returns-6)

@@ -7,7 +7,7 @@ use Prim.Native.Nat.{ℕ, zero, suc}
 use native.Mathlib.Omega.{arith}
 use Rattle.lists.proofs.TestLaws.{test-same}
 use Rattle.rules.specs.Rules.{Rule, Field}
-use Rattle.rules.specs.Parts.{Part, oneOf, partsOf}
+use Rattle.rules.specs.Parts.{Part, oneOf, noMoreThan, partsOf}
 use Rattle.steps.specs.Boxes.{openValues}
 use Rattle.steps.specs.Shrinking.{alive, lookPart, lookRule, lookField, round, sameRooms, shrink, shrunk, settledPart, settledRule, settled}
 use Rattle.steps.proofs.Boxes.BoxLaws.{box-inside-length, same-rooms-iff}
@@ -18,21 +18,26 @@ use Rattle.steps.proofs.Looks.RuleLaws.{LiveUnsettled, LiveInRule, rule
 use Rattle.steps.proofs.Looks.ShrinkLaws.{LiveInFields, round-inside, shrink-enough}
 use Rattle.steps.proofs.Looks.Idle.ButForIdle.{SameWay, SameLooks, both-dead, both-alive, same-way-stay, same-looks-on, unchanged-together, still-but-for-idle}
 use Rattle.steps.proofs.Looks.Idle.ButForIdle.{StaysIdle, StaysLive, SameSettled, LooksSame, all-stay-idle, some-stay-live, all-same-settled, in-turn-same}
+use Rattle.steps.proofs.Looks.Idle.AtMost.{at-most-stays-idle, at-most-stays-live, at-most-same-settled, at-most-looks-same}
 use Rattle.steps.proofs.Looks.Idle.Clauses.{clause-stays-idle, clause-stays-live, clause-same-settled, clause-looks-same}
 
 -- ---- a part, for each kind of part by the laws of that kind
 
 part-stays-idle : (part : Part) → StaysIdle (LiveUnsettled part)
 part-stays-idle (oneOf atoms) = clause-stays-idle atoms
+part-stays-idle (noMoreThan k m ps) = at-most-stays-idle m ps k
 
 part-stays-live : (part : Part) → StaysLive (λ v. PartFits v part) (LiveUnsettled part)
 part-stays-live (oneOf atoms) = clause-stays-live atoms
+part-stays-live (noMoreThan k m ps) = at-most-stays-live m ps k
 
 part-same-settled : (part : Part) → SameSettled (λ v. PartFits v part) (LiveUnsettled part) (λ box. settledPart box part)
 part-same-settled (oneOf atoms) = clause-same-settled atoms
+part-same-settled (noMoreThan k m ps) = at-most-same-settled m ps k
 
 part-looks-same : (place : ℕ) (part : Part) → LooksSame (λ v. PartFits v part) (LiveUnsettled part) (lookPart place part)
 part-looks-same place (oneOf atoms) = clause-looks-same atoms place
+part-looks-same place (noMoreThan k m ps) = at-most-looks-same m ps k place
 
 -- ---- a rule, from those of its parts
 

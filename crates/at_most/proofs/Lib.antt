@@ -1,0 +1,4 @@
+pub mod CountLaws
+pub mod CutLaws
+pub mod RuleLooks
+pub mod Unique

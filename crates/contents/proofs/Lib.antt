@@ -1,0 +1,3 @@
+pub mod FaultLaws
+pub mod NamingLaws
+pub mod Unique

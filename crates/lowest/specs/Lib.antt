@@ -1,0 +1,4 @@
+pub mod LowestBy
+pub mod Meeting
+pub mod Promise
+pub mod Untaken
