@@ -1,17 +1,16 @@
 -- What "at most k" leaves to be split: nothing where it is settled, `lowest-settled`; else the named positions whose rooms have two or more values and meet the set, `lowest-by-meeting`. Assumes nothing.
 use mathlib.Core.Path.{_≡_, refl, sym, ap, _∙_, subst}
-use mathlib.Core.Logic.{_↔_, ⊎-elim, inl, Iff·rfl, Iff·trans, Iff·and}
+use mathlib.Core.Logic.{_↔_, ⊎-elim, inl, Iff·rfl, Iff·symm, Iff·trans, Iff·and}
 use mathlib.Core.Bool.{Bool, true, false, not, _&&_, true≢false}
 use mathlib.Core.List.{List, [], _∷_, List·Memᴰ}
 use Prim.Native.Nat.{ℕ, _+_, _-_, _≤_, _<_}
 use native.Mathlib.Omega.{arith}
-use lib.Dec.{T, leb, eqb}
+use lib.Dec.{T, leb}
 use lib.ListN.{getD, take, drop}
 use Rattle.sets.specs.Sets.{meets, count}
 use Rattle.lists.specs.Lowest.{lowest}
-use Rattle.lists.proofs.ListLaws.{some-of-listed, listed-of-some}
 use Rattle.lists.proofs.LowestLaws.{lowest-same, lowest-none}
-use Rattle.lists.proofs.TestLaws.{true-test, both-hold, eq-holds, fails-false}
+use Rattle.lists.proofs.TestLaws.{true-test, both-hold, fails-false}
 use Rattle.rules.specs.declared.field.Tag.the-variants.{AtMost}
 use Rattle.rules.specs.Rules.{Rule, atMost}
 use Rattle.rules.specs.Parts.{noMoreThan, partsOf}
@@ -27,7 +26,7 @@ use Rattle.clauses.proofs.FrontRooms.{room-there}
 use Rattle.at_most.proofs.RuleLooks.{rule-settled, rule-of-bytes}
 use Rattle.lowest.specs.LowestBy.{splitsBy, lowestBy}
 use Rattle.lowest.specs.Meeting.{meetsAt, lowestMeeting}
-use Rattle.lowest.proofs.LowestInTurn.{namedAt, lowestOf, named-found, named-passed}
+use Rattle.lowest.proofs.LowestInTurn.{namedAt, lowestOf, named-some, named-found, named-passed}
 
 -- ---- where step 4 may split because of it
 
@@ -101,30 +100,13 @@ meetsWide box m p = leb 2 (count (roomAt box p)) && meets (roomAt box p) m
 -- the lowest index of a named position that passes this
 pub meeting-in-turn : (box : List ℕ) (m : ℕ) (ps : List ℕ) (bound : ℕ) → lowestMeeting box m ps bound ≡ lowestOf (meetsWide box m) ps bound
 unfolding roomAt
-meeting-in-turn box m ps bound = lowest-same (meetsAt box m ps) (λ i. someOf (namedAt (meetsWide box m) i) ps) bound (λ i l. (forth i, back i))
+meeting-in-turn box m ps bound = lowest-same (meetsAt box m ps) (λ i. someOf (namedAt (meetsWide box m) i) ps) bound (λ i l. Iff·trans (words i) (Iff·symm (named-some (meetsWide box m) ps i)))
   where
-    At : ℕ → ℕ → Type 0
-    At i p = T (namedAt (meetsWide box m) i p)
+    here : (i : ℕ) → (wide box i && meets (getD box i 0) m) ≡ meetsWide box m (i + 1)
+    here i = let index : i ≡ i + 1 - 1 = omega arith in ap (λ (j : ℕ). leb 2 (count (getD box j 0)) && meets (getD box j 0) m) index
 
-    at : (i p : ℕ) → At i p ↔ ((p ≡ i + 1) × T (meetsWide box m p))
-    at i p = Iff·trans (both-hold (eqb p (i + 1)) (meetsWide box m p)) (Iff·and (eq-holds p (i + 1)) Iff·rfl)
-
-    here : (i : ℕ) → meetsWide box m (i + 1) ≡ (wide box i && meets (getD box i 0) m)
-    here i = let index : i + 1 - 1 ≡ i = omega arith in ap (λ (j : ℕ). leb 2 (count (getD box j 0)) && meets (getD box j 0) m) index
-
-    forth : (i : ℕ) → T (meetsAt box m ps i) → T (someOf (namedAt (meetsWide box m) i) ps)
-    forth i t =
-        let both = both-hold (named (i + 1) ps) (wide box i && meets (getD box i 0) m) .0 t in
-        some-of-holds (namedAt (meetsWide box m) i) ps .1 (some-of-listed (At i) (named-listed (i + 1) ps .0 (both .0)) (at i (i + 1) .1 (refl, subst T (sym (here i)) (both .1))))
-
-    back : (i : ℕ) → T (someOf (namedAt (meetsWide box m) i) ps) → T (meetsAt box m ps i)
-    back i t =
-        let found = listed-of-some (At i) ps (some-of-holds (namedAt (meetsWide box m) i) ps .0 t) in
-        let both = at i (found .0) .0 (found .2) in
-        both-hold (named (i + 1) ps) (wide box i && meets (getD box i 0) m) .1 (
-          named-listed (i + 1) ps .1 (subst (λ (p : ℕ). List·Memᴰ p ps) (both .0) (found .1)),
-          subst T (ap (meetsWide box m) (both .0) ∙ here i) (both .1),
-        )
+    words : (i : ℕ) → T (meetsAt box m ps i) ↔ (List·Memᴰ (i + 1) ps × T (meetsWide box m (i + 1)))
+    words i = Iff·trans (both-hold (named (i + 1) ps) (wide box i && meets (getD box i 0) m)) (Iff·and (named-listed (i + 1) ps) (rw (here i) Iff·rfl))
 
 module _ (v : ℕ) (rooms : List ℕ) (m p low : ℕ) (fits : PositionFits v p) where
   abbrev room : ℕ

@@ -1,11 +1,11 @@
 -- What an equality leaves to be split: a named position whose room meets M and does not lie inside it, or has a value that is not taken. Assumes nothing.
-use mathlib.Core.Path.{_≡_, refl, sym, ap, _∙_, subst}
+use mathlib.Core.Path.{_≡_, refl, sym, ap, subst}
 use mathlib.Core.Logic.{_↔_, _⊎_, inl, inr, ⊎-elim, Iff·rfl, Iff·trans, Iff·and}
 use mathlib.Core.Bool.{Bool, true, false, not}
 use mathlib.Core.List.{List, [], _∷_, map, List·Memᴰ, List·Memᴰ·head, List·Memᴰ·eq-of-singleton}
 use Prim.Native.Nat.{ℕ, _+_, _-_, _^_, _≤_, _<_}
 use native.Mathlib.Omega.{arith}
-use lib.Dec.{T, eqb, T-not, not-T}
+use lib.Dec.{T, T-not, not-T}
 use lib.ListN.{getD}
 use Rattle.sets.specs.Sets.{member, common, inside, meets, single, values, count}
 use Rattle.sets.proofs.Members.{member-range, member-common, member-single}
@@ -15,7 +15,7 @@ use Rattle.sets.proofs.Smallest.{partly-inside-two}
 use Rattle.sets.proofs.Values.{member-of-listed, listed-of-member}
 use Rattle.lists.specs.Lists.{Some}
 use Rattle.lists.proofs.ListLaws.{some-of-listed, listed-of-some, some-over-map, some-over-append, some-same}
-use Rattle.lists.proofs.TestLaws.{both-hold, eq-holds, fails-false}
+use Rattle.lists.proofs.TestLaws.{both-hold, fails-false}
 use Rattle.rules.specs.Rules.{equality}
 use Rattle.rules.specs.Parts.{Part, oneOf, atomIn, eachInside, eachTaken, equalityParts, partsOf}
 use Rattle.steps.specs.Boxes.{roomAt}
@@ -26,7 +26,7 @@ use Rattle.steps.proofs.Looks.ClauseLaws.{ShowsSettled, settled-some}
 use Rattle.steps.proofs.Boxes.BoxSizes.{wide-and}
 use Rattle.lowest.specs.LowestBy.{splitsBy}
 use Rattle.lowest.specs.Untaken.{untaken}
-use Rattle.lowest.proofs.LowestInTurn.{namedAt}
+use Rattle.lowest.proofs.LowestInTurn.{namedAt, named-some}
 use Rattle.lowest.proofs.UntakenLaws.{member-untaken}
 
 -- two sets share a value
@@ -173,26 +173,23 @@ module _ (box : List ℕ) (m : ℕ) (low : m < 2 ^ 32) (ps : List ℕ) (masks : 
   unfolding roomAt
   splits-some = (forth, back)
     where
-      Here : ℕ → Type 0
-      Here q = T (namedAt (splitsOf box m (untaken box m ps)) i q)
+      meet : ℕ
+      meet = toMeet (inside (roomAt box (i + 1)) m) m (untaken box m ps)
 
-      here : (q : ℕ) → List·Memᴰ q ps → Here q ↔ ((q ≡ i + 1) × Shared (roomAt box q) (toMeet (inside (roomAt box q) m) m (untaken box m ps)))
-      here q t =
-          let meet = toMeet (inside (roomAt box q) m) m (untaken box m ps) in
-          Iff·trans (both-hold (eqb q (i + 1)) (meets (roomAt box q) meet))
-          (Iff·and (eq-holds q (i + 1)) (meets-shared (roomAt box q) meet (common-below (roomAt box q) meet (masks q t))))
+      some : T (someOf (namedAt (splitsOf box m (untaken box m ps)) i) ps) ↔ (List·Memᴰ (i + 1) ps × T (splitsOf box m (untaken box m ps) (i + 1)))
+      some = named-some (splitsOf box m (untaken box m ps)) ps i
+
+      shares : List·Memᴰ (i + 1) ps → T (splitsOf box m (untaken box m ps) (i + 1)) ↔ Shared (roomAt box (i + 1)) meet
+      shares t = meets-shared (roomAt box (i + 1)) meet (common-below (roomAt box (i + 1)) meet (masks (i + 1) t))
 
       forth : T (splitsBy box (equality m ps) i) → T (someOf (namedAt (splitsOf box m (untaken box m ps)) i) ps)
       forth t =
           let splits = live-splits box m low ps masks (i + 1) (wide-and box i (liveInRule box (i + 1) (equality m ps)) .0 t .1) in
-          some-of-holds (namedAt (splitsOf box m (untaken box m ps)) i) ps .1 (some-of-listed Here (splits .0) (here (i + 1) (splits .0) .1 (refl, splits .1)))
+          some .1 (splits .0, shares (splits .0) .1 (splits .1))
 
       back : T (someOf (namedAt (splitsOf box m (untaken box m ps)) i) ps) → T (splitsBy box (equality m ps) i)
       back t =
-          let found = listed-of-some Here ps (some-of-holds (namedAt (splitsOf box m (untaken box m ps)) i) ps .0 t) in
-          let q = found .0 in
-          let both = here q (found .1) .0 (found .2) in
-          let live = splits-live box m low ps masks q (found .1, both .1) in
-          let room : roomAt box q ≡ getD box i 0 = ap (λ (k : ℕ). getD box (k - 1) 0) (both .0) ∙ ap (λ (k : ℕ). getD box k 0) (omega arith) in
-          wide-and box i (liveInRule box (i + 1) (equality m ps)) .1
-          (subst (λ (r : ℕ). 2 ≤ count r) room (live .0), subst (λ (k : ℕ). T (liveInRule box k (equality m ps))) (both .0) (live .1))
+          let found = some .0 t in
+          let live = splits-live box m low ps masks (i + 1) (found .0, shares (found .0) .0 (found .1)) in
+          let room : roomAt box (i + 1) ≡ getD box i 0 = ap (λ (k : ℕ). getD box k 0) (omega arith) in
+          wide-and box i (liveInRule box (i + 1) (equality m ps)) .1 (subst (λ (r : ℕ). 2 ≤ count r) room (live .0), live .1)

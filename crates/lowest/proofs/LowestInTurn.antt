@@ -1,5 +1,5 @@
 -- The lowest index of a named position that passes a test, position by position. Assumes nothing.
-use mathlib.Core.Path.{_≡_, sym, ap, _∙_, subst}
+use mathlib.Core.Path.{_≡_, refl, sym, ap, _∙_, subst}
 use mathlib.Core.Logic.{_↔_, Iff·rfl, Iff·trans, Iff·and}
 use mathlib.Core.Bool.{Bool, false, _&&_}
 use mathlib.Core.List.{List, List·Memᴰ, List·Memᴰ·not-nil}
@@ -7,15 +7,17 @@ use Prim.Native.Nat.{ℕ, zero, suc, _+_, _-_, _^_, _≤_, _<_}
 use native.Mathlib.Omega.{arith}
 use lib.Dec.{T, eqb}
 use lib.ListN.{getD, take, drop}
+use Rattle.lists.specs.Lists.{Some}
 use Rattle.lists.specs.Lowest.{lowest}
 use Rattle.lists.proofs.FrontParts.{front-on, front-end}
-use Rattle.lists.proofs.ListLaws.{every-at}
+use Rattle.lists.proofs.ListLaws.{some-of-listed, listed-of-some, every-at}
 use Rattle.lists.proofs.LowestLaws.{lowest-either, lowest-none, lowest-only}
 use Rattle.lists.proofs.TestLaws.{both-hold, eq-holds}
 use Rattle.rules.specs.Contents.{Positions}
 use Rattle.rules.specs.Writing.{PositionFits}
 use Rattle.steps.specs.Boxes.{roomAt}
 use Rattle.steps.specs.Shrinking.{someOf}
+use Rattle.steps.proofs.Looks.LiveTests.{some-of-holds}
 use Rattle.clauses.proofs.FrontRooms.{room-there}
 
 -- whether p is the position with an index, and passes the test
@@ -28,18 +30,31 @@ lowestOf test ps bound = lowest (λ i. someOf (namedAt test i) ps) bound
 
 -- ---- one named position
 
-module _ (test : ℕ → Bool) (p low : ℕ) (first : 1 ≤ p) where
-  -- its test at an index
-  tested : (k : ℕ) → T (namedAt test k p) ↔ ((p ≡ k + 1) × T (test p))
-  tested k = Iff·trans (both-hold (eqb p (k + 1)) (test p)) (Iff·and (eq-holds p (k + 1)) Iff·rfl)
+-- the test of a position at an index
+named-at : (test : ℕ → Bool) (i p : ℕ) → T (namedAt test i p) ↔ ((p ≡ i + 1) × T (test p))
+named-at test i p = Iff·trans (both-hold (eqb p (i + 1)) (test p)) (Iff·and (eq-holds p (i + 1)) Iff·rfl)
 
+-- one of some positions has the index and passes exactly if the position with that index is listed and passes
+pub named-some : (test : ℕ → Bool) (ps : List ℕ) (i : ℕ) → T (someOf (namedAt test i) ps) ↔ (List·Memᴰ (i + 1) ps × T (test (i + 1)))
+named-some test ps i = Iff·trans (some-of-holds (namedAt test i) ps) (forth, λ h. some-of-listed At (h .0) (named-at test i (i + 1) .1 (refl, h .1)))
+  where
+    At : ℕ → Type 0
+    At p = T (namedAt test i p)
+
+    forth : Some At ps → List·Memᴰ (i + 1) ps × T (test (i + 1))
+    forth s =
+        let found = listed-of-some At ps s in
+        let both = named-at test i (found .0) .0 (found .2) in
+        (subst (λ (p : ℕ). List·Memᴰ p ps) (both .0) (found .1), subst (λ (p : ℕ). T (test p)) (both .0) (both .1))
+
+module _ (test : ℕ → Bool) (p low : ℕ) (first : 1 ≤ p) where
   -- where it passes, and its index is lower: its index
   pub named-found : p - 1 < low → T (test p) → lowest (λ k. namedAt test k p) low ≡ p - 1
-  named-found less t = lowest-only (λ k. namedAt test k p) low (p - 1) less (tested (p - 1) .1 (omega arith, t)) (λ k u. omega (arith, tested k .0 u .0))
+  named-found less t = lowest-only (λ k. namedAt test k p) low (p - 1) less (named-at test (p - 1) p .1 (omega arith, t)) (λ k u. omega (arith, named-at test k p .0 u .0))
 
   -- where it fails, or its index is not lower: the bound
   pub named-passed : (p - 1 < low → T (test p) → ⊥) → lowest (λ k. namedAt test k p) low ≡ low
-  named-passed none = lowest-none (λ k. namedAt test k p) low (λ k l u. let both = tested k .0 u in none (omega (arith, both .0)) (both .1))
+  named-passed none = lowest-none (λ k. namedAt test k p) low (λ k l u. let both = named-at test k p .0 u in none (omega (arith, both .0)) (both .1))
 
 -- ---- one after the other
 

@@ -42,6 +42,11 @@ pub live-named : (m : ℕ) (ps : List ℕ) (p room : ℕ) → T (isLiveAtMost m 
 unfolding isLiveAtMost
 live-named m ps p room = Iff·trans (both-hold (named p ps) (meets room m)) (Iff·and (named-listed p ps) Iff·rfl)
 
+-- it is settled exactly if at most k rooms meet the set
+pub settled-meeting : (box : List ℕ) (k m : ℕ) (ps : List ℕ) → T (settledAtMost box k m ps) ↔ (meetingCount m ps box ≤ k)
+unfolding settledAtMost
+settled-meeting box k m ps = le-holds (meetingCount m ps box) k
+
 -- ---- what a look finds
 
 -- the look by the rooms inside the set: more than k, just k, or fewer
@@ -124,9 +129,9 @@ module _ (m : ℕ) (ps : List ℕ) where
   module _ (k : ℕ) where
     -- settled: every assignment of a settled box meets it
     pub at-most-settled : Settling (λ v. AtMostFits v ps) (λ a. taking a m ps ≤ k) (λ box. settledAtMost box k m ps)
-    unfolding settledAtMost meetingCount
+    unfolding meetingCount
     at-most-settled box a fits t h =
-        let few = le-holds (meetingCount m ps box) k .0 t in
+        let few = settled-meeting box k m ps .0 t in
         let least = passing-at-most (λ p. isMember (valueAt a p) m) (λ p. meets (roomAt box p) m) ps (value-meets box a fits h) in
         omega arith
 

@@ -11,7 +11,7 @@ use lib.ListN.{length, getD}
 use lib.Seq.{ext-getD}
 use Rattle.sets.specs.Sets.{inside, meets, beside}
 use Rattle.sets.proofs.Outside.{inside-meets, meets-larger, beside-apart}
-use Rattle.lists.proofs.TestLaws.{test-same, test-cases, true-test, le-holds}
+use Rattle.lists.proofs.TestLaws.{test-same, test-cases, true-test}
 use Rattle.lists.proofs.ListLaws.{every-at}
 use Rattle.lists.proofs.PassingLaws.{passing-at-most, passing-back, passing-same}
 use Rattle.rules.specs.Parts.{noMoreThan}
@@ -19,7 +19,7 @@ use Rattle.rules.specs.Writing.{PositionFits}
 use Rattle.steps.specs.Boxes.{roomAt, BoxInside, Rooms}
 use Rattle.steps.specs.Shrinking.{alive, insideCount, meetingCount, cutOthers, lookAtMost, settledAtMost, isLiveAtMost}
 use Rattle.steps.proofs.Boxes.BoxLaws.{box-inside-length, box-inside-at, rooms-at, room-below}
-use Rattle.steps.proofs.Looks.AtMostLaws.{AtMostFits, LiveAtMost, live-named, AtMostLook, too-many, just-enough, fewer, at-most-look}
+use Rattle.steps.proofs.Looks.AtMostLaws.{AtMostFits, LiveAtMost, live-named, settled-meeting, AtMostLook, too-many, just-enough, fewer, at-most-look}
 use Rattle.steps.proofs.Looks.CutOthers.{CutAt, kept, cut, cut-length, cut-at}
 use Rattle.steps.proofs.Looks.RuleLaws.{LiveUnsettled}
 use Rattle.steps.proofs.Looks.Idle.ButForIdle.{ButForIdle, SameStep, neither, both, SameLooks, both-dead, both-alive, same-way-stay}
@@ -51,16 +51,15 @@ module _ (m : ℕ) (ps : List ℕ) where
 
     -- it is settled in every smaller box
     stays-settled : (b c : List ℕ) → Rooms c → BoxInside c b → T (settledAtMost b k m ps) → T (settledAtMost c k m ps)
-    unfolding settledAtMost
-    stays-settled b c rooms i t = le-holds (meetingCount m ps c) k .1 (omega (arith, meeting-falls b c rooms i, le-holds (meetingCount m ps b) k .0 t))
+    stays-settled b c rooms i t = settled-meeting c k m ps .1 (omega (arith, meeting-falls b c rooms i, settled-meeting b k m ps .0 t))
 
     -- a look at it changes nothing: no more than k rooms meet the set, so where just k lie inside no other meets it
     at-most-settled-look : (place : ℕ) (box : List ℕ) → Rooms box → AtMostFits (length box) ps → T (settledAtMost box k m ps) → lookAtMost place k m ps box ≡ alive box
-    unfolding settledAtMost meetingCount insideCount roomAt
+    unfolding meetingCount insideCount roomAt
     at-most-settled-look place box rooms fits t = go (at-most-look place k m ps box)
       where
         few : meetingCount m ps box ≤ k
-        few = le-holds (meetingCount m ps box) k .0 t
+        few = settled-meeting box k m ps .0 t
 
         least : insideCount m ps box ≤ meetingCount m ps box
         least = passing-at-most (λ p. inside (roomAt box p) m) (λ p. meets (roomAt box p) m) ps (inside-named box rooms fits)
