@@ -4,7 +4,7 @@ the step from the older spelling can be made again.
 
     tools/respell_names.py [FOLDER]        FOLDER is the top of the repository, this one if there is none
 
-- A word in camel case gets snake case: `lookAtMost` is `look_at_most`. `member` and `rising`, which are facts, are `IsMember` and `IsRising`.
+- A word gets snake case, also one with dashes: `lookAtMost` is `look_at_most`, `case-a` is `case_a`. `member` and `rising`, which are facts, are `IsMember` and `IsRising`.
 - In the name of a lemma a dash stands in front of the name of a definition or of an operation of lists and numbers, and an underscore in
   front of any other word: `count-of-single` is `count_of-single`.
 - The proof of a function `f` is `f_spec`.
@@ -22,6 +22,8 @@ CRATES = os.path.join(TOP, "crates")
 DECLARED = re.compile(r"^(\s*)((?:abbrev |unfoldable |pub |record |data )*)([^\s(){}:;,=]+) : (.*)$")
 WORD = re.compile(r"[A-Za-z0-9_'⊎≤≡ℕ∷¬×∙₀-₉ᴰ⊥][A-Za-z0-9_'⊎≤≡ℕ∷¬×∙₀-₉ᴰ⊥-]*")
 FACTS = {"member": "IsMember", "rising": "IsRising"}
+# Fields of records: snake case, also behind a dot.
+FIELDS = "bytes-written content-there head-there length-fits longer-left longer-right rule-faultless two-long".split()
 # Operations of std that stand in lemma names.
 OF_STD = "length get_or set take drop append replicate min max and or xor not".split()
 
@@ -40,7 +42,7 @@ def snake(name):
 
 # What is declared: names of definitions in camel case, names of lemmas with a dash, and those of specs/.
 def declared():
-    camel, dashed, defined, every = set(), set(), set(OF_STD), set()
+    camel, dashed, defined, every, words = set(), set(), set(OF_STD), set(), set()
     for path in antt_files():
         with open(path, encoding="utf-8") as f:
             for line in f:
@@ -53,11 +55,13 @@ def declared():
                 every.add(name)
                 if re.search(r"[a-z0-9][A-Z]", name) and name[0].islower():
                     camel.add(name)
-                elif "-" in name and not re.search(r"[A-Z]", name):
+                elif "-" in name and name not in FIELDS and not re.search(r"[A-Z]", name):
                     dashed.add(name)
+                if "/specs/" in path and "-" in name:
+                    words.add(name)
                 if "/specs/" in path and name[0].islower() and "record" not in m.group(2):
                     defined.add(snake(name))
-    return camel, dashed, defined, every
+    return camel, dashed, defined, every, words
 
 
 # The names that a file takes from the kit's library: they are not ours.
@@ -87,10 +91,10 @@ def lemma(name, defined):
 
 
 def main():
-    camel, dashed, defined, every = declared()
+    camel, dashed, defined, every, words = declared()
     new = {n: snake(n) for n in camel}
     for n in sorted(dashed):
-        new[n] = lemma(n, defined)
+        new[n] = n.replace("-", "_") if n in words else lemma(n, defined)
     new = {a: b for a, b in new.items() if a != b}
     taken = {}
     for n in sorted(every):
@@ -113,9 +117,11 @@ def main():
                 return w
             if w in FACTS and not in_code:
                 return w if before.endswith(".") else FACTS[w]
+            if w in FIELDS and not in_code:
+                return w.replace("-", "_")
             if w not in new:
                 return w
-            if w in dashed and (before.endswith(".") and not before.endswith("..") or in_code):
+            if w in dashed and (before.endswith(".") and not before.endswith(("..", "decided.")) or in_code):
                 return w
             return new[w]
 

@@ -3,12 +3,10 @@ use mathlib.Core.List.{List}
 use mathlib.Core.Logic.{◌↔◌}
 use Prim.Native.Nat.{ℕ, ◌≤◌, ◌<◌}
 use native.Mathlib.Omega.{arith}
-use lib.Dec.{T}
 use lib.ListN.{length, get_or}
 use Rattle.sets.specs.Sets.{is_member, IsMember}
 use Rattle.sets.proofs.Members.{member_empty}
 use Rattle.lists.specs.Lists.{Every}
-use Rattle.lists.specs.Passing.{passing}
 use Rattle.lists.proofs.ListLaws.{every_of_listed}
 use Rattle.lists.proofs.PassingLaws.{passing-most, passing_zero, passing-at_most_one}
 use Rattle.rules.specs.Rules.{at_most}

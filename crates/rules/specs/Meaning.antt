@@ -54,4 +54,4 @@ Plan file a = Assignment file.v file.n a × MeetsAll a file.rules
 
 -- the first plan in dictionary order: no plan is earlier
 abbrev pub FirstPlan : File → List ℕ → Type 0
-FirstPlan file a = Plan file a × ((b : List ℕ) → Plan file b → NotEarlier b a)
+FirstPlan file a = Plan file a × ((b : List ℕ) → Plan file b → (a ≡ b) ⊎ Before a b)

@@ -5,7 +5,7 @@ ghost use Rattle.rules.specs.Reading.{length_at};
 ghost use Rattle.rules.specs.Promise.{TagOf, SetAt, AtomAt, HeadAt};
 
 // The kinds of field that a tag byte can announce.
-#[derive(Drop)]
+#[derive(Clone, Copy)]
 pub enum Tag {
     Header,
     Clause,
@@ -16,14 +16,14 @@ pub enum Tag {
 }
 
 // A position and the set that its value may lie in.
-#[derive(Drop)]
+#[derive(Clone, Copy)]
 pub struct Atom {
     pub position: u32,
     pub set: u32,
 }
 
 // The first three bytes of a field: its tag byte, and how many bytes of content follow.
-#[derive(Drop)]
+#[derive(Clone, Copy)]
 pub struct Head {
     pub tag: u8,
     pub length: usize,

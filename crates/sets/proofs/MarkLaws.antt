@@ -7,7 +7,7 @@ use Prim.Native.Nat.{ℕ, suc, ◌^◌}
 use native.Mathlib.Omega.{arith}
 use lib.Dec.{T}
 use Rattle.lists.proofs.ListLaws.{either_same}
-use Rattle.sets.specs.Sets.{IsMember, union}
+use Rattle.sets.specs.Sets.{IsMember}
 use Rattle.sets.specs.Marks.{is_marked, with_mark}
 use Rattle.sets.specs.Promise.{Marked, Marks}
 use Rattle.sets.proofs.Members.{member_empty, member_power, member_union}

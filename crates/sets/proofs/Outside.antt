@@ -1,6 +1,6 @@
 -- Sets that meet, `meets_shared`, and the values of a room outside a set: what is left, `beside_some`, and that nothing is lost where they do not meet, `beside_apart`. Assumes nothing.
 use mathlib.Core.Path.{◌≡◌, sym, subst}
-use mathlib.Core.Logic.{◌↔◌, ◌⊎◌, ⊎_elim}
+use mathlib.Core.Logic.{◌↔◌, ⊎_elim}
 use Prim.Native.Nat.{ℕ, ◌^◌, ◌<◌}
 use lib.Dec.{T, T_not, not_T}
 use Rattle.lists.proofs.TestLaws.{test_cases}

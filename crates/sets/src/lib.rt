@@ -1,11 +1,13 @@
 // Set arithmetic of the bench's front panel: sets of the values 1 to 32, each the mask of a `Room`.
 // The contracts cite specs/Sets.antt (what each result is) and specs/Promise.antt (what it means).
+#![tactic(auto)]
+
 ghost use Rattle.sets.specs.Promise.{Full, Single, Union, Common, Inside, Complement, Count, Smallest, Others};
 
 pub mod marks;
 
 // A set of values: the lowest bit of the mask stands for value 1, the highest for value 32.
-#[derive(Drop)]
+#[derive(Clone, Copy)]
 pub struct Room {
     pub mask: u32,
 }

@@ -76,7 +76,7 @@ module _ (file : File) (within : Within file) where
     -- and then the splits are the allowance
     pub undecided_spent : (planned file allowed).number ≡ 2 → (planned file allowed).splits ≡ allowed
     unfolding planned
-    undecided_spent = decided.undecided-spent start allowed
+    undecided_spent = decided.undecided_spent start allowed
 
     -- a search gives PLAN, NONE or UNDECIDED
     pub number-decided : (planned file allowed).number ≤ 2
@@ -124,7 +124,7 @@ module _ (file : File) (within : Within file) where
         × ((b : List ℕ) → Plan file b → (i : ℕ) → get_or (planned file allowed).values i 0 ≤ get_or b i 0))
     unfolding planned special
     special_decides kind h =
-        decided.special-decides start allowed (subst (λ (v : ℕ). T (special_rules v (start_of file) (fields_of file))) (sym (start-positions file)) kind)
+        decided.special_decides start allowed (subst (λ (v : ℕ). T (special_rules v (start_of file) (fields_of file))) (sym (start-positions file)) kind)
         (omega (arith, wide-most (start_of file), start-positions file))
 
   -- ---- how deep it goes

@@ -105,70 +105,70 @@ starred = case_a ∷ case_b ∷ case_c ∷ case_d ∷ case_e ∷ case_f ∷ case
 -- ---- R-3: NONE with no split, and the place of the field first found dead
 
 -- [p1{1} p2{1}], [p1{2}], [p2{2}], [p2{1}]: the first round finds the last field dead, at 34, before it comes to the first again
-unfoldable pub case-first-round : Case
+unfoldable pub case_first_round : Case
 unfolding case
-case-first-round =
+case_first_round =
     case (1 ∷ 0 ∷ 2 ∷ 2 ∷ 2 ∷ 2 ∷ 0 ∷ 10 ∷ 1 ∷ 0 ∷ 0 ∷ 0 ∷ 1 ∷ 2 ∷ 0 ∷ 0 ∷ 0 ∷ 1 ∷ 2 ∷ 0 ∷ 5 ∷ 1 ∷ 0 ∷ 0 ∷ 0 ∷ 2 ∷ 2 ∷ 0 ∷ 5 ∷ 2 ∷ 0 ∷ 0 ∷ 0 ∷ 2 ∷ 2 ∷ 0 ∷ 5 ∷ 2 ∷ 0 ∷ 0 ∷ 0 ∷ 1 ∷ [])
     1000000 1 34 0 1 1 ([])
 
 -- [p1{2} p2{1}], [p1{1}], [p2{2}]: the first round cuts both rooms, and the second finds the first field dead, at 5
-unfoldable pub case_second-round : Case
+unfoldable pub case_second_round : Case
 unfolding case
-case_second-round =
+case_second_round =
     case (1 ∷ 0 ∷ 2 ∷ 2 ∷ 2 ∷ 2 ∷ 0 ∷ 10 ∷ 1 ∷ 0 ∷ 0 ∷ 0 ∷ 2 ∷ 2 ∷ 0 ∷ 0 ∷ 0 ∷ 1 ∷ 2 ∷ 0 ∷ 5 ∷ 1 ∷ 0 ∷ 0 ∷ 0 ∷ 1 ∷ 2 ∷ 0 ∷ 5 ∷ 2 ∷ 0 ∷ 0 ∷ 0 ∷ 2 ∷ [])
     1000000 1 5 0 1 2 ([])
 
 -- both
 unfoldable pub unmet : List Case
-unmet = case-first-round ∷ case_second-round ∷ []
+unmet = case_first_round ∷ case_second_round ∷ []
 
 -- ---- R-10: the rounds of the first box
 
 -- 64 positions of 32 values and no rule: the first round changes nothing, and counts
-unfoldable pub case_no-rule : Case
+unfoldable pub case_no_rule : Case
 unfolding case
-case_no-rule =
+case_no_rule =
     case (1 ∷ 0 ∷ 2 ∷ 64 ∷ 32 ∷ [])
     0 0 0 0 0 1 (1 ∷ 1 ∷ 1 ∷ 1 ∷ 1 ∷ 1 ∷ 1 ∷ 1 ∷ 1 ∷ 1 ∷ 1 ∷ 1 ∷ 1 ∷ 1 ∷ 1 ∷ 1 ∷ 1 ∷ 1 ∷ 1 ∷ 1 ∷ 1 ∷ 1 ∷ 1 ∷ 1 ∷ 1 ∷ 1 ∷ 1 ∷ 1 ∷ 1 ∷ 1 ∷ 1 ∷ 1 ∷ 1 ∷ 1 ∷ 1 ∷ 1 ∷ 1 ∷ 1 ∷ 1 ∷ 1 ∷ 1 ∷ 1 ∷ 1 ∷ 1 ∷ 1 ∷ 1 ∷ 1 ∷ 1 ∷ 1 ∷ 1 ∷ 1 ∷ 1 ∷ 1 ∷ 1 ∷ 1 ∷ 1 ∷ 1 ∷ 1 ∷ 1 ∷ 1 ∷ 1 ∷ 1 ∷ 1 ∷ 1 ∷ [])
 
 -- [p2{1} p3{2}], [p1{1} p2{2}], [p1{2}], v 3, n 2: each of three rounds cuts one room, and the fourth, which is the most, changes nothing
-unfoldable pub case_at_the-bound : Case
+unfoldable pub case_at_the_bound : Case
 unfolding case
-case_at_the-bound =
+case_at_the_bound =
     case (1 ∷ 0 ∷ 2 ∷ 3 ∷ 2 ∷ 2 ∷ 0 ∷ 10 ∷ 2 ∷ 0 ∷ 0 ∷ 0 ∷ 1 ∷ 3 ∷ 0 ∷ 0 ∷ 0 ∷ 2 ∷ 2 ∷ 0 ∷ 10 ∷ 1 ∷ 0 ∷ 0 ∷ 0 ∷ 1 ∷ 2 ∷ 0 ∷ 0 ∷ 0 ∷ 2 ∷ 2 ∷ 0 ∷ 5 ∷ 1 ∷ 0 ∷ 0 ∷ 0 ∷ 2 ∷ [])
     1000000 0 0 0 0 4 (2 ∷ 2 ∷ 2 ∷ [])
 
 -- [p1{2}], [p2{1} p3{1}], v 3, n 2: two rounds, and a split is needed
-unfoldable pub case-undecided : Case
+unfoldable pub case_undecided : Case
 unfolding case
-case-undecided =
+case_undecided =
     case (1 ∷ 0 ∷ 2 ∷ 3 ∷ 2 ∷ 2 ∷ 0 ∷ 5 ∷ 1 ∷ 0 ∷ 0 ∷ 0 ∷ 2 ∷ 2 ∷ 0 ∷ 10 ∷ 2 ∷ 0 ∷ 0 ∷ 0 ∷ 1 ∷ 3 ∷ 0 ∷ 0 ∷ 0 ∷ 1 ∷ [])
     0 2 0 0 0 2 ([])
 
 -- the same with a split allowed: the rounds stay those of the first box
-unfoldable pub case-first-box : Case
+unfoldable pub case_first_box : Case
 unfolding case
-case-first-box =
+case_first_box =
     case (1 ∷ 0 ∷ 2 ∷ 3 ∷ 2 ∷ 2 ∷ 0 ∷ 5 ∷ 1 ∷ 0 ∷ 0 ∷ 0 ∷ 2 ∷ 2 ∷ 0 ∷ 10 ∷ 2 ∷ 0 ∷ 0 ∷ 0 ∷ 1 ∷ 3 ∷ 0 ∷ 0 ∷ 0 ∷ 1 ∷ [])
     1 0 0 1 0 2 (2 ∷ 1 ∷ 1 ∷ [])
 
 -- the same with a second header behind it: a refusal, with no round
-unfoldable pub case-refused : Case
+unfoldable pub case_refused : Case
 unfolding case
-case-refused =
+case_refused =
     case (1 ∷ 0 ∷ 2 ∷ 3 ∷ 2 ∷ 2 ∷ 0 ∷ 5 ∷ 1 ∷ 0 ∷ 0 ∷ 0 ∷ 2 ∷ 2 ∷ 0 ∷ 10 ∷ 2 ∷ 0 ∷ 0 ∷ 0 ∷ 1 ∷ 3 ∷ 0 ∷ 0 ∷ 0 ∷ 1 ∷ 1 ∷ 0 ∷ 2 ∷ 3 ∷ 2 ∷ [])
     1 15 26 0 0 0 ([])
 
 -- all five
 unfoldable pub in_rounds : List Case
-in_rounds = case_no-rule ∷ case_at_the-bound ∷ case-undecided ∷ case-first-box ∷ case-refused ∷ []
+in_rounds = case_no_rule ∷ case_at_the_bound ∷ case_undecided ∷ case_first_box ∷ case_refused ∷ []
 
 -- ---- R-6: starting sets
 
 -- [p1{1}], and behind it position 1 starts at {2, 3}, n 3: no value of the clause is there from the start
-unfoldable pub case-not_fitted : Case
+unfoldable pub case_not_fitted : Case
 unfolding case
-case-not_fitted =
+case_not_fitted =
     case (1 ∷ 0 ∷ 2 ∷ 2 ∷ 3 ∷ 2 ∷ 0 ∷ 5 ∷ 1 ∷ 0 ∷ 0 ∷ 0 ∷ 1 ∷ 4 ∷ 0 ∷ 5 ∷ 1 ∷ 0 ∷ 0 ∷ 0 ∷ 6 ∷ [])
     1000000 1 5 0 1 1 ([])
 
@@ -195,7 +195,7 @@ case_second_start =
 
 -- all four
 unfoldable pub started : List Case
-started = case-not_fitted ∷ case_fitted ∷ case_empty_start ∷ case_second_start ∷ []
+started = case_not_fitted ∷ case_fitted ∷ case_empty_start ∷ case_second_start ∷ []
 
 -- ---- R-12: at most k
 
@@ -207,9 +207,9 @@ case_two_buses =
     1000000 1 0 1 2 1 ([])
 
 -- position 1 starts at {1, 2}, and at most one of 1 and 2 is in {1, 2}, n 3: a room of two values counts too, and 2 is cut to {3}
-unfoldable pub case-wide-inside : Case
+unfoldable pub case_wide_inside : Case
 unfolding case
-case-wide-inside =
+case_wide_inside =
     case (1 ∷ 0 ∷ 2 ∷ 2 ∷ 3 ∷ 4 ∷ 0 ∷ 5 ∷ 1 ∷ 0 ∷ 0 ∷ 0 ∷ 3 ∷ 5 ∷ 0 ∷ 7 ∷ 1 ∷ 0 ∷ 0 ∷ 0 ∷ 3 ∷ 1 ∷ 2 ∷ [])
     0 0 0 0 0 2 (1 ∷ 3 ∷ [])
 
@@ -221,50 +221,50 @@ case_one_value_live =
     1000000 0 0 2 0 1 (3 ∷ 1 ∷ 1 ∷ 1 ∷ [])
 
 -- starts {1, 2}, {1, 3} and {1, 3}, and at most two are in {1, 2}: rooms that meet the set are not counted as inside
-unfoldable pub case_partly-inside : Case
+unfoldable pub case_partly_inside : Case
 unfolding case
-case_partly-inside =
+case_partly_inside =
     case (1 ∷ 0 ∷ 2 ∷ 3 ∷ 3 ∷ 4 ∷ 0 ∷ 5 ∷ 1 ∷ 0 ∷ 0 ∷ 0 ∷ 3 ∷ 4 ∷ 0 ∷ 5 ∷ 2 ∷ 0 ∷ 0 ∷ 0 ∷ 5 ∷ 4 ∷ 0 ∷ 5 ∷ 3 ∷ 0 ∷ 0 ∷ 0 ∷ 5 ∷ 5 ∷ 0 ∷ 8 ∷ 2 ∷ 0 ∷ 0 ∷ 0 ∷ 3 ∷ 1 ∷ 2 ∷ 3 ∷ [])
     1000000 0 0 2 0 1 (1 ∷ 1 ∷ 3 ∷ [])
 
 -- none of 1 may be in {1, 2}, n 2: its field is dead from the start
-unfoldable pub case-none-allowed : Case
+unfoldable pub case_none_allowed : Case
 unfolding case
-case-none-allowed =
+case_none_allowed =
     case (1 ∷ 0 ∷ 2 ∷ 2 ∷ 2 ∷ 5 ∷ 0 ∷ 6 ∷ 0 ∷ 0 ∷ 0 ∷ 0 ∷ 3 ∷ 1 ∷ [])
     1000000 1 5 0 1 1 ([])
 
 -- a position above v, named twice: 19
-unfoldable pub case-position_above : Case
+unfoldable pub case_position_above : Case
 unfolding case
-case-position_above =
+case_position_above =
     case (1 ∷ 0 ∷ 2 ∷ 2 ∷ 2 ∷ 5 ∷ 0 ∷ 7 ∷ 1 ∷ 0 ∷ 0 ∷ 0 ∷ 1 ∷ 3 ∷ 3 ∷ [])
     1000000 19 5 0 0 0 ([])
 
 -- a value above n before a position above v: 20
-unfoldable pub case-set_above : Case
+unfoldable pub case_set_above : Case
 unfolding case
-case-set_above =
+case_set_above =
     case (1 ∷ 0 ∷ 2 ∷ 2 ∷ 2 ∷ 5 ∷ 0 ∷ 6 ∷ 1 ∷ 0 ∷ 0 ∷ 0 ∷ 4 ∷ 3 ∷ [])
     1000000 20 5 0 0 0 ([])
 
 -- a position named twice: 36
-unfoldable pub case-named_twice : Case
+unfoldable pub case_named_twice : Case
 unfolding case
-case-named_twice =
+case_named_twice =
     case (1 ∷ 0 ∷ 2 ∷ 2 ∷ 2 ∷ 5 ∷ 0 ∷ 7 ∷ 1 ∷ 0 ∷ 0 ∷ 0 ∷ 1 ∷ 1 ∷ 1 ∷ [])
     1000000 36 5 0 0 0 ([])
 
 -- a position named twice before one above v: 19 of every position comes first
-unfoldable pub case_twice-and_above : Case
+unfoldable pub case_twice_and_above : Case
 unfolding case
-case_twice-and_above =
+case_twice_and_above =
     case (1 ∷ 0 ∷ 2 ∷ 2 ∷ 2 ∷ 5 ∷ 0 ∷ 8 ∷ 1 ∷ 0 ∷ 0 ∷ 0 ∷ 1 ∷ 1 ∷ 1 ∷ 3 ∷ [])
     1000000 19 5 0 0 0 ([])
 
 -- all nine
 unfoldable pub at_mosts : List Case
-at_mosts = case_two_buses ∷ case-wide-inside ∷ case_one_value_live ∷ case_partly-inside ∷ case-none-allowed ∷ case-position_above ∷ case-set_above ∷ case-named_twice ∷ case_twice-and_above ∷ []
+at_mosts = case_two_buses ∷ case_wide_inside ∷ case_one_value_live ∷ case_partly_inside ∷ case_none_allowed ∷ case_position_above ∷ case_set_above ∷ case_named_twice ∷ case_twice_and_above ∷ []
 
 -- ---- R-14: rules added late in the day
 
@@ -277,19 +277,19 @@ unfoldable pub late_field : List ℕ
 late_field = 5 ∷ 0 ∷ 9 ∷ 1 ∷ 0 ∷ 0 ∷ 0 ∷ 2 ∷ 1 ∷ 3 ∷ 4 ∷ 5 ∷ []
 
 -- NONE with the one split that is allowed
-unfoldable pub case-late-none : Case
+unfoldable pub case_late_none : Case
 unfolding case
-case-late-none = case late_bytes 1 1 0 1 2 1 ([])
+case_late_none = case late_bytes 1 1 0 1 2 1 ([])
 
 -- with the field behind, position 1 is split first, and one split is not enough: UNDECIDED at the same allowance
-unfoldable pub case-late-undecided : Case
+unfoldable pub case_late_undecided : Case
 unfolding case
-case-late-undecided = case (late_bytes ++ late_field) 1 2 0 1 0 1 ([])
+case_late_undecided = case (late_bytes ++ late_field) 1 2 0 1 0 1 ([])
 
 -- with the four that it needs it is NONE again, with other counts
-unfoldable pub case-late_again : Case
+unfoldable pub case_late_again : Case
 unfolding case
-case-late_again = case (late_bytes ++ late_field) 4 1 0 4 5 1 ([])
+case_late_again = case (late_bytes ++ late_field) 4 1 0 4 5 1 ([])
 
 -- [p1{1}] and [p1{2}], n 2: the second field is dead
 unfoldable pub place_bytes : List ℕ
@@ -300,15 +300,15 @@ unfoldable pub place_field : List ℕ
 place_field = 4 ∷ 0 ∷ 5 ∷ 1 ∷ 0 ∷ 0 ∷ 0 ∷ 2 ∷ []
 
 -- NONE at the second field
-unfoldable pub case-place_before : Case
+unfoldable pub case_place_before : Case
 unfolding case
-case-place_before = case place_bytes 1000000 1 13 0 1 1 ([])
+case_place_before = case place_bytes 1000000 1 13 0 1 1 ([])
 
 -- with the starting set behind, the first field is dead: the place moves
-unfoldable pub case-place_moved : Case
+unfoldable pub case_place_moved : Case
 unfolding case
-case-place_moved = case (place_bytes ++ place_field) 1000000 1 5 0 1 1 ([])
+case_place_moved = case (place_bytes ++ place_field) 1000000 1 5 0 1 1 ([])
 
 -- all five
 unfoldable pub late : List Case
-late = case-late-none ∷ case-late-undecided ∷ case-late_again ∷ case-place_before ∷ case-place_moved ∷ []
+late = case_late_none ∷ case_late_undecided ∷ case_late_again ∷ case_place_before ∷ case_place_moved ∷ []

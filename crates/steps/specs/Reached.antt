@@ -10,5 +10,5 @@ use Rattle.steps.specs.Shrinking.{alive, look_part}
 pub data Reached (start : List ℕ) : List ℕ → Type 0 where
   begins : Reached start start
   looks : {box box' : List ℕ} (place : ℕ) (part : Part) → Reached start box → look_part place part box ≡ alive box' → Reached start box'
-  splits-first : {box : List ℕ} (i : ℕ) → Reached start box → i < length box → 2 ≤ count (get_or box i 0) → Reached start (first_half i box)
+  splits_first : {box : List ℕ} (i : ℕ) → Reached start box → i < length box → 2 ≤ count (get_or box i 0) → Reached start (first_half i box)
   splits_other : {box : List ℕ} (i : ℕ) → Reached start box → i < length box → 2 ≤ count (get_or box i 0) → Reached start (other_half i box)

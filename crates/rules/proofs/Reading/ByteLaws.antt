@@ -1,9 +1,9 @@
 -- Laws of what bytes say where they start further on, and of the tag byte. Assumes nothing.
 use mathlib.Core.Path.{◌≡◌, sym, ap, ap₂, ◌∙◌}
 use mathlib.Core.List.{List, [], ◌∷◌}
-use Prim.Native.Nat.{ℕ, ◌+◌, ◌-◌, ◌*◌, suc, ◌<◌}
+use Prim.Native.Nat.{ℕ, ◌+◌, ◌*◌, suc, ◌<◌}
 use native.Mathlib.Nat.{add-zero, add_assoc}
-use lib.ListN.{length, get_or, drop}
+use lib.ListN.{get_or, drop}
 use lib.Seq.{get_or-drop}
 use borrow.Author.Tests.{ne_eqb}
 use Rattle.rules.specs.declared.field.Tag.TheVariants.{Unknown}

@@ -108,10 +108,10 @@ again_fault-none seen (at_most k m ps) = (λ e. tt, λ t. refl)
 
 -- what the tests of a field say
 pub record SoundField (v n : ℕ) (bytes : List ℕ) : Type 0 where
-  pub head-there : 3 ≤ length bytes
+  pub head_there : 3 ≤ length bytes
   pub tag_fits : tag_fault (tag_of (head_of bytes).tag) ≡ 0
-  pub length_fits_lem : T (length_fits (tag_of (head_of bytes).tag) (head_of bytes).length)
-  pub content-there : (head_of bytes).length ≤ length (content_of bytes)
+  pub length_fits : T (length_fits (tag_of (head_of bytes).tag) (head_of bytes).length)
+  pub content_there : (head_of bytes).length ≤ length (content_of bytes)
   pub rule_faultless : rule_fault v n (rule_at bytes) ≡ 0
 
 -- a field has no fault exactly if it passes its tests
@@ -126,10 +126,10 @@ fault_after-none v n seen bytes = simp (or_else_none, field_fault-none, again_fa
 
 -- what the tests of the header say
 pub record SoundHeader (bytes : List ℕ) : Type 0 where
-  pub head-there : 3 ≤ length bytes
+  pub head_there : 3 ≤ length bytes
   pub header : (head_of bytes).tag ≡ 1
   pub two_long : (head_of bytes).length ≡ 2
-  pub content-there : 2 ≤ length (content_of bytes)
+  pub content_there : 2 ≤ length (content_of bytes)
   pub positions : (1 ≤ get_or bytes 3 0) × (get_or bytes 3 0 ≤ 64)
   pub values : (1 ≤ get_or bytes 4 0) × (get_or bytes 4 0 ≤ 32)
 

@@ -144,7 +144,7 @@ module _ (v n end : ℕ) where
       let seen' : ℕ = seen_with (rule_at bytes) seen in
       let later = fields_fine k seen' (place + size) rest (λ l. omega (arith, length-drop size bytes)) in
       refuse_for_fine (fault_after v n seen bytes) place _ (after-number v n seen bytes) (omega arith)
-      (λ e. with_rule_fine (rule_at bytes) (read_fields k v n seen' (place + size) rest) ((fault_after-none v n seen bytes).0 e).0.rule-faultless later)
+      (λ e. with_rule_fine (rule_at bytes) (read_fields k v n seen' (place + size) rest) ((fault_after-none v n seen bytes).0 e).0.rule_faultless later)
 
 reading_fine : (s : List ℕ) → Fine (get_or s 3 0) (get_or s 4 0) (length s) (reading s)
 unfolding reading

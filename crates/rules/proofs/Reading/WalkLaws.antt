@@ -117,18 +117,18 @@ module _ {s : List ℕ} {v at : ℕ} {left : List Field} (walk : Walk s v at lef
         first =
             walk.fields ∙ ap (λ (f : File). placed at f.rules) (sym step.2)
             ∙ ap (λ (k : ℕ). record { place = at; rule = rule_at bytes } ∷ placed (at + k) later.rules) (sym size);
-        ends = omega (arith, field.head-there, field.content-there, length-drop at s, length-drop 3 bytes);
-        there = omega (arith, field.content-there, ap length behind);
+        ends = omega (arith, field.head_there, field.content_there, length-drop at s, length-drop 3 bytes);
+        there = omega (arith, field.content_there, ap length behind);
         rule = λ kind e. ap (λ (k : Tag). rule_of k (head_of bytes).length (drop 3 bytes)) e ∙ ap (rule_of kind (head_of bytes).length) behind;
         fits = λ kind e.
             subst₂ (λ (k : Tag) (content : List ℕ). ContentFits k v (head_of bytes).length content) e behind
             (content_fits v n (tag_of (head_of bytes).tag) (head_of bytes).length (drop 3 bytes) walk.few
-            field.tag_fits field.length-fits field.content-there field.rule-faultless);
+            field.tag_fits field.length_fits field.content_there field.rule_faultless);
         on = λ next e.
             let same : next ≡ at + size_of bytes = omega arith in
             record {
               few = walk.few;
-              within = omega (arith, field.head-there, field.content-there, length-drop at s, length-drop 3 bytes);
+              within = omega (arith, field.head_there, field.content_there, length-drop at s, length-drop 3 bytes);
               seen = seen_with (rule_at bytes) walk.seen;
               rules = later.rules;
               read =

@@ -41,13 +41,13 @@ rules_of-written (r ∷ rs) (suc k) v n seen place h fits one =
 record RulesRead (v n seen : ℕ) (bytes : List ℕ) (file : File) : Type 0 where
   rules : List Rule
   whole : record { v = v; n = n; rules = rules } ≡ file
-  bytes-written : bytes ≡ written_rules rules
+  bytes_written : bytes ≡ written_rules rules
   fits : Every (RuleFits v n) rules
   one : OneStart seen rules
 
 no-rules-read : (v n seen : ℕ) (file : File) → sound (record { v = v; n = n; rules = [] }) ≡ sound file → RulesRead v n seen [] file
 unfolding written_rules
-no-rules-read v n seen file e = record { rules = []; whole = cc; bytes-written = refl; fits = tt; one = tt }
+no-rules-read v n seen file e = record { rules = []; whole = cc; bytes_written = refl; fits = tt; one = tt }
 
 rules_of-read : (k v n seen place : ℕ) (bytes : List ℕ) (file : File) → length bytes ≤ k → Every Byte bytes → read_fields k v n seen place bytes ≡ sound file
     → RulesRead v n seen bytes file
@@ -67,7 +67,7 @@ rules_of-read (suc k) v n seen place (b ∷ bs) file h small e =
     record {
       rules = rule_at bytes ∷ more.rules;
       whole = cc;
-      bytes-written = rule_of-read v n bytes field small ∙ ap (λ (l : List ℕ). written_rule (rule_at bytes) ++ l) more.bytes-written;
+      bytes_written = rule_of-read v n bytes field small ∙ ap (λ (l : List ℕ). written_rule (rule_at bytes) ++ l) more.bytes_written;
       fits = (fits_of-read v n bytes field small, more.fits);
       one = (passed.1, more.one);
     }
@@ -78,7 +78,7 @@ header_of-written : (v n : ℕ) (rest : List ℕ) → (1 ≤ v) × (v ≤ 64) �
 unfolding framed two_bytes head_of length_at content_of
 header_of-written v n rest hv hn =
     (header_fault-none (framed 1 (v ∷ n ∷ []) ++ rest)).1
-    (record { head-there = omega arith; header = refl; two_long = refl; content-there = omega arith; positions = hv; values = hn })
+    (record { head_there = omega arith; header = refl; two_long = refl; content_there = omega arith; positions = hv; values = hn })
 
 header_of-read : (s : List ℕ) → 5 ≤ length s → SoundHeader s → s ≡ framed 1 (get_or s 3 0 ∷ get_or s 4 0 ∷ []) ++ drop 5 s
 unfolding framed two_bytes head_of length_at
@@ -110,7 +110,7 @@ written_of-read s small file e =
     let header : SoundHeader s = (header_fault-none s).0 step.0 in
     let found = rules_of-read (length s) (get_or s 3 0) (get_or s 4 0) 0 5 (drop 5 s) file (omega (arith, length-drop 5 s)) (bytes_drop 5 s small) step.1 in (
       header_of-read s (omega (arith, length-drop 3 s)) header
-          ∙ ap (λ (l : List ℕ). framed 1 (get_or s 3 0 ∷ get_or s 4 0 ∷ []) ++ l) found.bytes-written ∙ ap written found.whole,
+          ∙ ap (λ (l : List ℕ). framed 1 (get_or s 3 0 ∷ get_or s 4 0 ∷ []) ++ l) found.bytes_written ∙ ap written found.whole,
       subst Within found.whole (record { positions = header.positions; values = header.values; rules = found.fits; starts = found.one }),
     )
 

@@ -177,10 +177,10 @@ module _ (r : Rule) (rest : List ℕ) where
   sound_of-written v n fits =
       let f = (rule_fits v n r).0 fits in
       record {
-        head-there = rw length-append (omega (arith, written_long r));
+        head_there = rw length-append (omega (arith, written_long r));
         tag_fits = rw head_of-written (rule-tag r);
-        length_fits_lem = rw head_of-written f.0;
-        content-there = rw (head_of-written, content_of-written, length-append) (omega arith);
+        length_fits = rw head_of-written f.0;
+        content_there = rw (head_of-written, content_of-written, length-append) (omega arith);
         rule_faultless = rw rule_of-written f.2;
       }
 
@@ -200,7 +200,7 @@ module _ (v n : ℕ) (bytes : List ℕ) (field : SoundField v n bytes) where
   length_of_content : length (content_bytes (rule_at bytes)) ≡ (head_of bytes).length
   unfolding rule_at
   length_of_content =
-      length_of-rule (tag_of (head_of bytes).tag) (head_of bytes).length (content_of bytes) field.tag_fits field.length-fits field.content-there
+      length_of-rule (tag_of (head_of bytes).tag) (head_of bytes).length (content_of bytes) field.tag_fits field.length_fits field.content_there
 
   -- the tag byte of its rule is the one that stands there
   pub tag_of_content : tag_byte (rule_at bytes) ≡ (head_of bytes).tag
@@ -217,16 +217,16 @@ module _ (v n : ℕ) (bytes : List ℕ) (field : SoundField v n bytes) where
     unfolding rule_at content_of
     content_of-read =
         content_of-rule (tag_of (head_of bytes).tag) (head_of bytes).length (content_of bytes) (bytes_drop 3 bytes small)
-        field.tag_fits field.length-fits field.content-there
+        field.tag_fits field.length_fits field.content_there
 
     -- they are its rule written, and what follows
     pub rule_of-read : bytes ≡ written_rule (rule_at bytes) ++ drop (size_of bytes) bytes
     unfolding written_rule
-    rule_of-read = rw (tag_of_content, content_of-read) (framed_of-read bytes field.head-there small field.content-there)
+    rule_of-read = rw (tag_of_content, content_of-read) (framed_of-read bytes field.head_there small field.content_there)
 
     -- the rule is within the limits
     pub fits_of-read : RuleFits v n (rule_at bytes)
     unfolding content_of rule_at rule_of
     fits_of-read =
         (rule_fits v n (rule_at bytes)).1
-        (rw (tag_of_content, length_of_content) field.length-fits, omega (arith, length_of_content, length_below bytes small), field.rule-faultless, count_of-read (tag_of (head_of bytes).tag) (head_of bytes).length (content_of bytes) (bytes_drop 3 bytes small))
+        (rw (tag_of_content, length_of_content) field.length_fits, omega (arith, length_of_content, length_below bytes small), field.rule_faultless, count_of-read (tag_of (head_of bytes).tag) (head_of bytes).length (content_of bytes) (bytes_drop 3 bytes small))

@@ -28,15 +28,15 @@ module _ {R : ℕ → ℕ → Type 0} {P : List ℕ → List ℕ → Type 0} (pa
   -- paired lists are equally long
   pub paired-length : (a b : List ℕ) → P a b → length a ≡ length b
   paired-length [] [] h = refl
-  paired-length [] (y ∷ b) h = absurd (paired.longer-right y b h)
-  paired-length (x ∷ a) [] h = absurd (paired.longer-left x a h)
+  paired-length [] (y ∷ b) h = absurd (paired.longer_right y b h)
+  paired-length (x ∷ a) [] h = absurd (paired.longer_left x a h)
   paired-length (x ∷ a) (y ∷ b) h = ap suc (paired-length a b ((paired.more x y a b).0 h).1)
 
   -- R holds at each place, and past the end where it holds of 0 and 0
   pub paired_at : (a b : List ℕ) (i : ℕ) → P a b → (length b ≤ i → R 0 0) → R (get_or a i 0) (get_or b i 0)
   paired_at [] [] i h past = past zero-le
-  paired_at [] (y ∷ b) i h past = absurd (paired.longer-right y b h)
-  paired_at (x ∷ a) [] i h past = absurd (paired.longer-left x a h)
+  paired_at [] (y ∷ b) i h past = absurd (paired.longer_right y b h)
+  paired_at (x ∷ a) [] i h past = absurd (paired.longer_left x a h)
   paired_at (x ∷ a) (y ∷ b) zero h past = ((paired.more x y a b).0 h).0
   paired_at (x ∷ a) (y ∷ b) (suc i) h past = paired_at a b i ((paired.more x y a b).0 h).1 (λ l. past (suc-le-suc l))
 
@@ -55,8 +55,8 @@ module _ {R : ℕ → ℕ → Type 0} {P : List ℕ → List ℕ → Type 0} (pa
   -- paired lists stay paired where both get elements with R at the same place
   pub paired-set : (a b : List ℕ) (i x y : ℕ) → P a b → R x y → P (set a i x) (set b i y)
   paired-set [] [] i x y h r = h
-  paired-set [] (t ∷ b) i x y h r = absurd (paired.longer-right t b h)
-  paired-set (s ∷ a) [] i x y h r = absurd (paired.longer-left s a h)
+  paired-set [] (t ∷ b) i x y h r = absurd (paired.longer_right t b h)
+  paired-set (s ∷ a) [] i x y h r = absurd (paired.longer_left s a h)
   paired-set (s ∷ a) (t ∷ b) zero x y h r = (paired.more x y a b).1 (r, ((paired.more s t a b).0 h).1)
   paired-set (s ∷ a) (t ∷ b) (suc i) x y h r =
       let parts = (paired.more s t a b).0 h in

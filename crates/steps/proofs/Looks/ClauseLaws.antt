@@ -8,7 +8,7 @@ use mathlib.Core.List.{List, [], ◌∷◌, Memᴰ}
 use Prim.Native.Nat.{ℕ, ◌+◌, ◌-◌, ◌^◌, ◌≤◌, ◌<◌}
 use native.Mathlib.Omega.{arith}
 use lib.Dec.{T}
-use lib.ListN.{length, get_or, set}
+use lib.ListN.{length, get_or}
 use Rattle.sets.specs.Sets.{IsMember, inside, count, IsRising}
 use Rattle.sets.proofs.Sameness.{inside_iff}
 use Rattle.sets.proofs.Smallest.{partly-inside_two}
@@ -19,7 +19,7 @@ use Rattle.rules.specs.Rules.{clause}
 use Rattle.rules.specs.Meaning.{value_at, Meets}
 use Rattle.lists.proofs.ListLaws.{some_of_listed, listed_of_some, every_at, either_same}
 use Rattle.steps.specs.Boxes.{room_at, with_room, InBox, BoxInside, Rooms}
-use Rattle.steps.specs.Shrinking.{Look, dead, alive, united, is_live, live_from, cut, look_by, look_clause, settled_by, settled_clause}
+use Rattle.steps.specs.Shrinking.{dead, alive, united, is_live, live_from, cut, look_by, look_clause, settled_by, settled_clause}
 use Rattle.steps.proofs.Boxes.BoxLaws.{in-box_at, box-inside-length, box-inside_at, box-inside_refl, box-inside_trans}
 use Rattle.steps.proofs.Boxes.BoxLaws.{rooms_at, shared_in-box, shared-inside, shared-rooms, shared_both-inside}
 use Rattle.steps.proofs.Looks.SixLaws.{Sound, Inward, Settling, Steady, Monotone, NotLive, Names}

@@ -17,7 +17,7 @@ use Rattle.rules.specs.Meaning.{Meets, MeetsFields}
 use Rattle.rules.specs.Parts.{one_of, parts_of}
 use Rattle.lists.proofs.ListLaws.{every_of_listed, every_at}
 use Rattle.steps.specs.Boxes.{InBox, BoxInside, Rooms, smallest_of, first_half}
-use Rattle.steps.specs.Shrinking.{look_part, look_parts, dead, alive, look_rule, round, shrunk}
+use Rattle.steps.specs.Shrinking.{look_part, look_parts, alive, look_rule, round, shrunk}
 use Rattle.steps.specs.Reply.{Reply}
 use Rattle.steps.specs.Search.{never, explored}
 use Rattle.steps.specs.Special.{odd_sets, special_rule, special_rules}

@@ -5,7 +5,7 @@ use native.Mathlib.Omega.{arith}
 use Rattle.sets.specs.Sets.{full, single, common, in_range, only_if, inside, listed_if, values_from, values, count, first_of, smallest}
 use Rattle.rules.specs.Rules.{File, clause, starting}
 use Rattle.steps.specs.Boxes.{with_room, start_box, spare_values, box_size, Rooms, first_half}
-use Rattle.steps.specs.Reached.{Reached, begins, splits-first}
+use Rattle.steps.specs.Reached.{Reached, begins, splits_first}
 use Rattle.steps.specs.Rounds.{rounds_most}
 use Rattle.steps.specs.Start.{start_by, starts_by, start_of}
 use Rattle.steps.proofs.Start.StartLooks.{reached-inside}
@@ -26,7 +26,7 @@ example_start = (refl, refl, refl)
 -- from these rooms its first half at position 2 is reached
 pub example_reached : Reached (10 ∷ 15 ∷ 5 ∷ []) (10 ∷ 1 ∷ 5 ∷ [])
 unfolding first_half single smallest first_of in_range only_if count values values_from listed_if
-example_reached = splits-first 1 begins (omega arith) (omega arith)
+example_reached = splits_first 1 begins (omega arith) (omega arith)
 
 -- and no box in which position 1 has the value 1, which is not in its starting set
 pub example-not_reached : Reached (10 ∷ 15 ∷ 5 ∷ []) (1 ∷ 15 ∷ 5 ∷ []) → ⊥

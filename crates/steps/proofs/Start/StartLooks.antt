@@ -18,7 +18,7 @@ use Rattle.rules.specs.Parts.{Part, parts_of}
 use Rattle.rules.specs.Writing.{Within}
 use Rattle.rules.proofs.Writing.PlaceLaws.{every_field}
 use Rattle.steps.specs.Boxes.{room_at, BoxInside, Rooms, first_half, other_half}
-use Rattle.steps.specs.Reached.{Reached, begins, looks, splits-first, splits_other}
+use Rattle.steps.specs.Reached.{Reached, begins, looks, splits_first, splits_other}
 use Rattle.steps.specs.Shrinking.{alive, look_part, in_turn, look_rule, look_field, all_of, settled_clause, settled_rule, settled, shrunk}
 use Rattle.steps.specs.Search.{chosen}
 use Rattle.steps.specs.Start.{start_of}
@@ -84,7 +84,7 @@ reached-inside {start} rooms (looks {box = b} {box' = c} place part on e) =
     let before = reached-inside rooms on in
     let kept = part-inside place part b c before.1 e in
     (box-inside_trans c b start kept.0 before.0, kept.1)
-reached-inside {start} rooms (splits-first {box = b} i on there two) =
+reached-inside {start} rooms (splits_first {box = b} i on there two) =
     let before = reached-inside rooms on in
     (box-inside_trans (first_half i b) b start (first_half-inside b i before.1 there two) before.0, first_half-rooms b i before.1 there two)
 reached-inside {start} rooms (splits_other {box = b} i on there two) =
@@ -110,7 +110,7 @@ reached_halves fields start {box} {inner} rooms fits on e u =
     let there = split-there fields box inner before.1 (fits-inside fields box start before.0 fits) e u in
     let two = chosen_two fields inner there in
     let here = reached-shrunk fields start rooms on e in
-    (splits-first (chosen fields inner) here there two, splits_other (chosen fields inner) here there two)
+    (splits_first (chosen fields inner) here there two, splits_other (chosen fields inner) here there two)
 
 module _ (file : File) (within : Within file) {box : List ℕ} (on : Reached (start_of file) box) where
   -- R-6: at every step of the search of a file all rooms lie inside the starting sets

@@ -19,7 +19,7 @@ use Rattle.rules.specs.Writing.{PositionFits}
 use Rattle.steps.specs.Boxes.{room_at, BoxInside, Rooms}
 use Rattle.steps.specs.Shrinking.{alive, inside_count, meeting_count, cut_others, look_at_most, settled_at_most, is_live_at_most}
 use Rattle.steps.proofs.Boxes.BoxLaws.{box-inside-length, box-inside_at, rooms_at, room_below}
-use Rattle.steps.proofs.Looks.AtMostLaws.{AtMostFits, LiveAtMost, live-named, settled_meeting, AtMostLook, too_many, just_enough, fewer, at_most_look}
+use Rattle.steps.proofs.Looks.AtMostLaws.{AtMostFits, live-named, settled_meeting, AtMostLook, too_many, just_enough, fewer, at_most_look}
 use Rattle.steps.proofs.Looks.CutOthers.{CutAt, kept, cut, cut-length, cut_at_lem}
 use Rattle.steps.proofs.Looks.RuleLaws.{LiveUnsettled}
 use Rattle.steps.proofs.Looks.Idle.ButForIdle.{ButForIdle, SameStep, neither, both, SameLooks, both-dead, both-alive, same_way_stay}
