@@ -49,7 +49,7 @@ module _ (s : List ℕ) {fault : ℕ} (found : fault ≡ header_fault s) where
   -- and is there whole, with at most 64 positions
   pub header_long : fault ≡ 0 → (5 ≤ length s) × (get_or s 3 0 ≤ 64)
   unfolding content_of
-  header_long none = let header = (header_fault-none s).0 (sym found ∙ none) in omega (arith, header.content-there, header.positions, length-drop 3 s)
+  header_long none = let header = (header_fault-none s).0 (sym found ∙ none) in omega (arith, header.content_there, header.positions, length-drop 3 s)
 
 -- ---- the fields
 
@@ -84,7 +84,7 @@ module _ {s : List ℕ} {v n seen at : ℕ} (here : Unchecked s v n seen at) (be
       pub field_ends : at + 3 + head.length ≤ length s
       unfolding content_of
       field_ends =
-          omega (arith, field_tests.head-there, field_tests.content-there, ap (λ (h : Head). h.length) read, length-drop at s, length-drop 3 (drop at s))
+          omega (arith, field_tests.head_there, field_tests.content_there, ap (λ (h : Head). h.length) read, length-drop at s, length-drop 3 (drop at s))
 
       -- and leaves the verdict to the fields behind it
       pub field_passes : {seen' : ℕ} → seen' ≡ seen_with (rule_at (drop at s)) seen → (next : ℕ) → next ≡ at + 3 + head.length → Unchecked s v n seen' next

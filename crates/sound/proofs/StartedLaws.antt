@@ -4,7 +4,7 @@ use mathlib.Core.List.{List}
 use Prim.Native.Nat.{ℕ, suc, ◌-◌, ◌≤◌}
 use native.Mathlib.Omega.{arith}
 use lib.Dec.{T}
-use lib.ListN.{length, get_or, drop, length-drop}
+use lib.ListN.{get_or, drop, length-drop}
 use Rattle.sets.specs.Sets.{is_member}
 use Rattle.sets.specs.Marks.{is_marked, with_mark}
 use Rattle.sets.proofs.MarkLaws.{marked-exactly}
@@ -27,12 +27,12 @@ unfolding rule_at rule_of content_of atom_of
 start-there v n bytes few none =
     let field = (field_fault-none v n bytes).0 none in
     record {
-      head = field.head-there;
+      head = field.head_there;
       position = λ kind.
-          let five = starting-length (head_of bytes).length (subst (λ (k : Tag). T (length_fits k (head_of bytes).length)) kind field.length-fits) in
-          let rule = ap (λ (k : Tag). rule_fault v n (rule_of k (head_of bytes).length (drop 3 bytes))) (sym kind) ∙ field.rule-faultless in
+          let five = starting-length (head_of bytes).length (subst (λ (k : Tag). T (length_fits k (head_of bytes).length)) kind field.length_fits) in
+          let rule = ap (λ (k : Tag). rule_fault v n (rule_of k (head_of bytes).length (drop 3 bytes))) (sym kind) ∙ field.rule_faultless in
           let fits = ((starting_fault-none v n (atom_of (drop 3 bytes))).0 rule).0.0 in
-          omega (arith, five, field.content-there, length-drop 3 bytes, fits, first-drop bytes 3);
+          omega (arith, five, field.content_there, length-drop 3 bytes, fits, first-drop bytes 3);
     }
 
 -- ---- the position, by the field's kind

@@ -13,7 +13,7 @@ use sets::Room;
 
 // What a check answers: the number of positions and of values of a sound file, or 01's number of
 // the first fault and the place of its field.
-#[derive(Drop)]
+#[derive(Clone, Copy)]
 pub enum Checked {
     Sound { positions: u32, values: u32 },
     Refused { number: u32, place: usize },
