@@ -10,7 +10,7 @@ use Rattle.rules.specs.declared.field.Tag.TheVariants.{AtMost}
 use Rattle.rules.specs.Rules.{Rule, at_most}
 use Rattle.rules.specs.Parts.{no_more_than, parts_of}
 use Rattle.rules.specs.Reading.{set_at, rule_of}
-use Rattle.steps.specs.Shrinking.{dead, inside_count, meeting_count, cut_others, look_at_most, settled_at_most, look_part, look_rule, all_of, settled_rule}
+use Rattle.steps.specs.Shrinking.{inside_count, meeting_count, cut_others, look_at_most, settled_at_most, look_part, look_rule, all_of, settled_rule}
 use Rattle.steps.proofs.Looks.AtMostLaws.{look_too_many, look_just-enough, look-fewer}
 use Rattle.steps.proofs.Looks.InTurn.{in_turn_one}
 use Rattle.clauses.specs.Looks.{Leaves}

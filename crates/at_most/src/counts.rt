@@ -7,7 +7,7 @@ ghost use Rattle.at_most.specs.Counted.{Counted};
 use sets::Room;
 
 // How many of some rooms lie inside a set, and how many meet it.
-#[derive(Drop)]
+#[derive(Clone, Copy)]
 pub(crate) struct Counts {
     pub(crate) inside: usize,
     pub(crate) meeting: usize,

@@ -19,14 +19,14 @@ use rules::field::{Tag, head_at, tag_of};
 use sets::Room;
 
 // What shrinking finds: the box lives, or a field with this place is dead.
-#[derive(Drop)]
+#[derive(Clone, Copy)]
 pub enum Verdict {
     Alive,
     Dead(usize),
 }
 
 // The verdict, and the rounds that shrinking took.
-#[derive(Drop)]
+#[derive(Clone, Copy)]
 pub struct Shrunk {
     pub verdict: Verdict,
     pub rounds: u64,

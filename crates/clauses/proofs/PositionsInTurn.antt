@@ -1,9 +1,9 @@
 -- The positions that the first so many bytes name, one by one. Assumes nothing.
 use mathlib.Core.Path.{subst}
-use Prim.Native.Nat.{ℕ, ◌-◌, ◌<◌}
+use Prim.Native.Nat.{ℕ, ◌<◌}
 use mathlib.Core.List.{List}
 use native.Mathlib.Omega.{arith}
-use lib.ListN.{length, get_or, take, length-take}
+use lib.ListN.{get_or, take, length-take}
 use lib.Seq.{get_or-take}
 use Rattle.rules.specs.Contents.{Positions}
 use Rattle.rules.specs.Writing.{PositionFits}

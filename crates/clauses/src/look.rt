@@ -10,7 +10,7 @@ use sets::Room;
 
 // What the scan for the first live position has met: the index of that position, what its room shares
 // with the set that shows it, and the place of the next atom. Nothing is kept where none is live.
-#[derive(Drop)]
+#[derive(Clone, Copy)]
 struct Met {
     next: usize,
     live: usize,
