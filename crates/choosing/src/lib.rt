@@ -2,4 +2,6 @@
 // contracts cite the search of the crate `steps`.
 //
 // The rooms of positions 1 to v are the first v masks of an array of 64; the others play no part.
+#![tactic(auto)]
+
 pub mod choose;

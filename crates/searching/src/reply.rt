@@ -3,7 +3,7 @@
 ghost use Rattle.searching.specs.Promise.{Ends, NoneAt, Refuses, HasRounds};
 
 // A reply. The values of a plan are in the caller's buffer.
-#[derive(Drop)]
+#[derive(Clone, Copy)]
 pub struct Reply {
     pub number: u32,
     pub place: usize,

@@ -6,7 +6,7 @@ ghost use Rattle.splitting.specs.Promise.{KeepsHalf};
 use sets::Room;
 
 // A half of a split: the smallest value of the room that is split, or its others.
-#[derive(Drop)]
+#[derive(Clone, Copy)]
 pub enum Half {
     First,
     Other,
