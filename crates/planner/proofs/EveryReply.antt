@@ -10,7 +10,6 @@ use Rattle.rules.specs.Reading.{Reading, sound, refused, reading}
 use Rattle.rules.proofs.Reading.RefusalLaws.{refused_range, refused-place}
 use Rattle.rules.specs.Rules.{File}
 use Rattle.steps.specs.Boxes.{box_size}
-use Rattle.steps.specs.Reply as steps
 use Rattle.steps.specs.Start.{start_of}
 use Rattle.steps.specs.Table.{of_reading}
 use Rattle.searching.specs.declared.reply.Reply.{Reply}

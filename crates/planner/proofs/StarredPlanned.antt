@@ -6,7 +6,6 @@ use borrow.Author.Tests.{le-ltb}
 use lib.ListN.{length}
 use Rattle.lists.specs.Lists.{Every}
 use Rattle.lists.proofs.ListLaws.{every_map}
-use Rattle.steps.specs.Reply as steps
 use Rattle.steps.specs.Table.{reply_of}
 use Rattle.steps.specs.Cases.{Case, starred, unmet, in_rounds, started, at_mosts, late}
 use Rattle.steps.proofs.StarredCases.{Holds, starred_hold}

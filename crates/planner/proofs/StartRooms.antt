@@ -9,7 +9,7 @@ use Rattle.sets.specs.Sets.{full}
 use Rattle.sound.specs.declared.check.Checked.TheVariants.{Sound}
 use Rattle.sound.specs.Checked.{checked_of}
 use Rattle.rules.specs.Writing.{fields_of}
-use Rattle.rules.specs.Reading.{sound, reading}
+use Rattle.rules.specs.Reading.{reading}
 use Rattle.rules.specs.Sound.{file_of, fields_in, SoundInput}
 use Rattle.rules.proofs.Reading.WalkLaws.{sound_limits}
 use Rattle.steps.specs.Boxes.{start_box, spare_values, Rooms}

@@ -10,7 +10,7 @@ use lib.ListN.{length, get_or}
 use Rattle.rules.specs.Rules.{at_most, starting}
 use Rattle.rules.specs.Writing.{two_bytes, four_bytes, written_atoms, framed, tag_byte, content_bytes, written_rule}
 use Rattle.rules.proofs.DictionaryOrder.{not_earlier-exactly}
-use Rattle.steps.specs.Cases.{case, late, late_bytes, late_field, case-late-none, case-late-undecided, place_bytes, place_field, case-place_before, case-place_moved}
+use Rattle.steps.specs.Cases.{case, late, late_bytes, late_field, case_late_none, case_late_undecided, place_bytes, place_field, case_place_before, case_place_moved}
 use Rattle.searching.specs.declared.reply.Reply.{Reply}
 use Rattle.planner.specs.Promise.{Planned}
 use Rattle.planner.specs.Later.{Decided, RulesAdded, Stays}
@@ -26,7 +26,7 @@ late-fields = (refl, refl)
 module _ (before after before' later : List ℕ) (r s : Reply) (roomy : 64 ≤ length before) (roomy' : 64 ≤ length before') where
   -- with one split allowed for both calls, NONE becomes UNDECIDED
   pub none_then-undecided : Planned late_bytes before after 1 r → Planned (late_bytes ++ late_field) before' later 1 s → (r.number ≡ 1) × (s.number ≡ 2)
-  unfolding case late case-late-none case-late-undecided
+  unfolding case late case_late_none case_late_undecided
   none_then-undecided p q = (
     ap (λ (g : Reply). g.number) (starred-planned.5.0 before after r roomy p).reply,
     ap (λ (g : Reply). g.number) (starred-planned.5.1.0 before' later s roomy' q).reply,
@@ -34,7 +34,7 @@ module _ (before after before' later : List ℕ) (r s : Reply) (roomy : 64 ≤ l
 
   -- both are NONE with no split, and the field first found dead is another
   pub place_moves : Planned place_bytes before after 1000000 r → Planned (place_bytes ++ place_field) before' later 1000000 s → (r.place ≡ 13) × (s.place ≡ 5)
-  unfolding case late case-place_before case-place_moved
+  unfolding case late case_place_before case_place_moved
   place_moves p q = (
     ap (λ (g : Reply). g.place) (starred-planned.5.1.1.1.0 before after r roomy p).reply,
     ap (λ (g : Reply). g.place) (starred-planned.5.1.1.1.1.0 before' later s roomy' q).reply,

@@ -45,29 +45,28 @@ module _ (input : List ℕ) (bytes : Every (λ b. b < 256) input) (file : File) 
       go (yes zero) = ((promised.plan file accepted).0 zero).1
       go (no other) = ((promised.none file accepted).0 (omega (arith, decided))).1
 
-  module _ (before' later : List ℕ) (allowed' : ℕ) (s : Reply) (promised' : Planned input before' later allowed' s) (roomy : 64 ≤ length before') (modest : allowed' ≤ 1000000)
-      (larger : allowed ≤ allowed') where
-    -- the later call is answered by that search too, with the earlier allowance
-    answered : Answered (planned file allowed) s before' later
-    answered =
-        answers (enough-allowed file within allowed enough ∙ sym (enough-allowed file within allowed' (omega (arith, enough, larger))))
-        (found input before' later allowed' s bytes promised'.answered file (record { short = accepted.short; roomy = roomy; modest = modest; read = read }))
-
-    -- the values of that search are what the earlier call wrote
-    same-values : r.number ≡ 0 → (planned file allowed).values ≡ take file.v after
-    same-values zero =
-        let values = (planned file allowed).values in
-        let long = plan_long input before after allowed r bytes promised.answered file accepted zero in
-        sym (ap (take file.v) first.memory ∙ take_at values (drop (length values) before) file.v long)
-
-    -- so the replies are the same
-    same : s ≡ r
-    same = answered.reply ∙ sym first.reply
-
+  module _ (before' later : List ℕ) (allowed' : ℕ) (s : Reply) (promised' : Planned input before' later allowed' s) (roomy : 64 ≤ length before') (modest : allowed' ≤ 1000000) where
     -- the whole reply stays, and what is written
-    pub allowance_raised : Stays file.v r after s before' later
-    allowance_raised = record {
+    pub allowance_raised : allowed ≤ allowed' → Stays file.v r after s before' later
+    allowance_raised larger = record {
       reply = same;
       plan = λ zero. answered.memory ∙ ap (λ (values : List ℕ). over values before') (same-values zero);
       none = λ one. promised'.kept (λ zero. omega (arith, one, zero, ap (λ (q : Reply). q.number) same));
     }
+      where
+        -- the later call is answered by that search too, with the earlier allowance
+        answered : Answered (planned file allowed) s before' later
+        answered =
+            answers (enough-allowed file within allowed enough ∙ sym (enough-allowed file within allowed' (omega (arith, enough, larger))))
+            (found input before' later allowed' s bytes promised'.answered file (record { short = accepted.short; roomy = roomy; modest = modest; read = read }))
+
+        -- the values of that search are what the earlier call wrote
+        same-values : r.number ≡ 0 → (planned file allowed).values ≡ take file.v after
+        same-values zero =
+            let values = (planned file allowed).values in
+            let long = plan_long input before after allowed r bytes promised.answered file accepted zero in
+            sym (ap (take file.v) first.memory ∙ take_at values (drop (length values) before) file.v long)
+
+        -- so the replies are the same
+        same : s ≡ r
+        same = answered.reply ∙ sym first.reply

@@ -1,0 +1,61 @@
+-- `planner::plan::plan` meets its promise: the reply of 01's table, from which the whole promise follows. Assumes nothing.
+use Rattle.std.proofs.Common.{ℕ, refl, sym, ◌∙◌, List, ◌<◌, length, get_or, arith}
+use Rattle.steps.specs.Table.{of_reading, reply_of}
+use Rattle.searching.specs.declared.reply.Reply.{Reply}
+use Rattle.searching.specs.Answered.{Answered}
+use Rattle.searching.proofs.AnsweredLaws.{answers, nothing_written}
+use Rattle.planner.proofs.PromiseLaws.{promise-kept}
+use Rattle.planner.proofs.ReplyLaws.{reply_too_long, reply_no_room, reply_too_many, reply-reading}
+use Rattle.rules.proofs.Reading.ByteLaws.{bytes_each}
+use Rattle.sound.proofs.CheckedLaws.{checked_refused}
+use Rattle.planner.proofs.StartRooms.{sound_checked, start-full, searched-planned}
+use Rattle.planner.specs.Promise.{Planned}
+use Rattle.planner.proofs.plan.plan.Goals as goal
+
+-- a call that is answered by 01's table keeps the promise
+kept : {input before after : List ℕ} {allowed : ℕ} {r : Reply} → ((i : ℕ) → get_or input i 0 < 256) → Answered (reply_of input (length before) allowed) r before after
+    → Planned input before after allowed r
+kept {input} {before} {after} {allowed} {r} bytes = promise-kept input before after allowed r (bytes_each input bytes)
+
+pub returns-then-input-gt32768 : goal.returns-then-input-gt32768
+returns-then-input-gt32768 c =
+    kept (λ i. (c.type_inv.input i).fits) (answers (reply_too_long _ _ _ c.if-input-gt32768.true) (nothing_written c.refused.ensures refl))
+
+pub returns-then-answer-lt-POSITIONS : goal.returns-then-answer-lt-POSITIONS
+returns-then-answer-lt-POSITIONS c =
+    kept (λ i. (c.type_inv.input i).fits)
+    (answers (reply_no_room _ _ _ c.if-input-gt32768.false c.if-answer-lt-POSITIONS.true) (nothing_written c.refused-then-answer-lt-POSITIONS.ensures refl))
+
+pub returns-then-allowance-gt1000000 : goal.returns-then-allowance-gt1000000
+returns-then-allowance-gt1000000 c =
+    kept (λ i. (c.type_inv.input i).fits)
+    (answers (reply_too_many _ _ _ c.if-input-gt32768.false c.if-answer-lt-POSITIONS.false c.if-allowance-gt1000000.true)
+    (nothing_written c.refused-then-allowance-gt1000000.ensures refl))
+
+pub start_rooms-requires : goal.start_rooms-requires
+start_rooms-requires c = (sound_checked _ _ _ (sym c.in-Sound.ensures)).read
+
+pub search_from-requires : goal.search_from-requires
+search_from-requires c =
+    let s = c.args.input.now in
+    let read = c.in-Sound in
+    let checked = sym read.ensures in
+    (sound_checked s read.positions read.values checked, start-full s read.positions read.values checked c.start_rooms.ensures, omega arith, omega arith)
+
+pub returns-in-Refused : goal.returns-in-Refused
+unfolding of_reading
+returns-in-Refused c =
+    let so = checked_refused _ _ _ (sym c.in-Refused.ensures) in
+    kept (λ i. (c.type_inv.input i).fits)
+    (answers (reply-reading _ _ _ _ so c.if-input-gt32768.false c.if-answer-lt-POSITIONS.false c.if-allowance-gt1000000.false)
+    (nothing_written c.refused-in-Refused.ensures refl))
+
+pub returns-in-Sound : goal.returns-in-Sound
+unfolding of_reading
+returns-in-Sound c =
+    let s = c.args.input.now in
+    let read = c.in-Sound in
+    let checked = sym read.ensures in
+    kept (λ i. (c.type_inv.input i).fits)
+    (answers (reply-reading _ _ _ _ (sound_checked s read.positions read.values checked).read c.if-input-gt32768.false c.if-answer-lt-POSITIONS.false c.if-allowance-gt1000000.false
+    ∙ sym (searched-planned s read.positions read.values checked c.start_rooms.ensures _)) c.search_from.ensures)
