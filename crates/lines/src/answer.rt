@@ -29,7 +29,7 @@ fn positions(input: &[u8]) -> usize
 
 // What the program writes for an input: the text that it prints, and what it says of the reply in
 // words, on standard error.
-#[derive(Drop)]
+#[derive(Clone, Copy)]
 pub struct Output {
     pub printed: Text,
     pub said: Text,

@@ -1,5 +1,7 @@
 // A reply in words, for people: where a refusal stands in the file and what is wrong there, and which
 // field cannot be met where there is no plan. The contracts cite specs/Words.antt.
+#![tactic(auto)]
+
 ghost use Rattle.std.specs.Prelude.{◌≡◌};
 ghost use Rattle.texts.specs.Grown.{line_of};
 ghost use Rattle.texts.specs.Promise.{Grows};

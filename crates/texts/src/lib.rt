@@ -1,11 +1,13 @@
 // A text that grows at its end, up to 2,048 bytes. The contracts cite specs/Promise.antt, over
 // specs/Bytes.antt (words, numbers and values as bytes) and specs/Grown.antt (a text with more bytes).
+#![tactic(auto)]
+
 ghost use Rattle.std.specs.Prelude.{◌≡◌, ◌++◌, ◌∷◌, [], min, take};
 ghost use Rattle.texts.specs.Bytes.{decimal, behind, spaced, newline};
 ghost use Rattle.texts.specs.Promise.{New, Grows};
 
 // A text of at most 2,048 bytes: the first `len` bytes are the text.
-#[derive(Drop)]
+#[derive(Clone, Copy)]
 pub struct Text {
     pub bytes: [u8; 2048],
     pub len: usize,
