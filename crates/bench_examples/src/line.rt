@@ -2,12 +2,33 @@
 // most rounds that the file can take.
 ghost use Rattle.std.specs.Prelude.{◌≤◌, length};
 
-use libc::STDOUT_FILENO;
 use lines::answer::answer;
 use planner::plan::plan;
 use planner::rounds::rounds_most;
 use searching::reply::Reply;
+use std::io::{Error, ErrorKind, Result, Write};
 use streams::put;
+
+// The descriptor of standard output.
+const STDOUT: i32 = 1;
+
+// Standard output as a writer.
+#[derive(Clone, Copy)]
+struct Output {}
+
+impl Write for Output {
+    fn write(&mut self, buf: &[u8]) -> Result<usize> {
+        if io::write_all(STDOUT, buf) {
+            Ok(buf.len())
+        } else {
+            Err(Error::from(ErrorKind::Other))
+        }
+    }
+
+    fn flush(&mut self) -> Result<()> {
+        Ok(())
+    }
+}
 
 // Calls `plan` with a buffer of 70 bytes and prints the line, which starts with the name. The file
 // has v positions; v is 0 where it has no header that is read.
@@ -23,22 +44,22 @@ pub(crate) fn show_lent(name: &[u8], input: &[u8], lent: usize, allowance: u64, 
 {
     let mut buffer = filled();
     let reply = reply_to(input, &mut buffer, lent, allowance);
-    io::write_all(STDOUT_FILENO, name);
+    io::write_all(STDOUT, name);
     let written = numbers(reply, v);
     values(&buffer, written);
     if kept(&buffer, written) {
-        io::write_all(STDOUT_FILENO, b" kept\n");
+        io::write_all(STDOUT, b" kept\n");
     } else {
-        io::write_all(STDOUT_FILENO, b" touched\n");
+        io::write_all(STDOUT, b" touched\n");
     }
     printed(input);
 }
 
 // Prints a line with the name and the most rounds of an input, by `rounds_most`.
 pub(crate) fn show_most(name: &[u8], input: &[u8]) {
-    io::write_all(STDOUT_FILENO, name);
+    io::write_all(STDOUT, name);
     spaced(rounds_most(input));
-    io::write_all(STDOUT_FILENO, b"\n");
+    io::write_all(STDOUT, b"\n");
 }
 
 // What the program prints for a file, by the function that it calls.
@@ -47,7 +68,7 @@ fn printed(input: &[u8]) {
     let text = output.printed;
     let bytes = text.bytes;
     let len = text.len;
-    put(STDOUT_FILENO, &bytes, len);
+    put(&mut Output {}, &bytes, len);
 }
 
 // What `plan` replies where so many bytes of the buffer are lent to it.
@@ -108,8 +129,8 @@ fn values(buffer: &[u8; 70], count: usize)
 
 // A space and a number in decimal.
 fn spaced(number: u64) {
-    io::write_all(STDOUT_FILENO, b" ");
-    io::print_decimal(STDOUT_FILENO, number);
+    io::write_all(STDOUT, b" ");
+    io::print_decimal(STDOUT, number);
 }
 
 // A byte as a number to print.

@@ -11,6 +11,8 @@
 // case d (R-3) and the rounds (R-10), those that unmet.rt, rounds.rt, step4.rt, starting.rt, at_most.rt and
 // added.rt work out by hand, and for the limits 01's table and its order; models/bench_examples.py makes it
 // again.
+#![tactic(auto)]
+
 mod added;
 mod at_most;
 mod limits;

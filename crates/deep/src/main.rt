@@ -12,13 +12,15 @@
 //
 // The file `stdout` beside src/ has the line that is right. It follows from this account; a search
 // written from the text of 01 and 02 alone, with sets of values in place of masks, gave the same.
+#![tactic(auto)]
+
 mod file;
 mod line;
 mod stack;
 
-fn main() {
+fn main(rt: HostRuntime) {
     let input = file::deep();
     let mut answer = [0; 64];
-    let reply = stack::plan_in_little_stack(&input, &mut answer);
+    let reply = stack::plan_in_little_stack(&rt, &input, &mut answer);
     line::show(reply, &answer);
 }

@@ -1,40 +1,66 @@
 // The stack that the planner has here: 2 MiB at most. A program cannot lower its own limit, so it takes up
 // what the system allows above that, in blocks, before it plans.
-use libc::{_SC_ARG_MAX, sysconf};
 use planner::plan::plan;
 use searching::reply::Reply;
+use std::fs;
 
 // The bytes that are left to the planner.
 const LEFT: u64 = 2_097_152;
 
 // What a process usually has: 8 MiB. It is taken for the limit where the system names none, or 24 MiB and
-// more, which it does not tell apart; then more than 2 MiB may be left.
+// more, so that no more is taken up; then more than 2 MiB may be left.
 const USUAL: u64 = 8_388_608;
 
 const UNTOLD: u64 = 25_165_824;
 
-// The bytes of a block.
-const BLOCK: usize = 65_536;
+// The bytes of stack that a call of `plan_below` takes: a block, and 752 bytes beside it as LLVM builds it, 768 as
+// Rattle's own compiler does.
+const CALL: u64 = 65_536;
 
-// The bytes of stack that the system allows: the arguments of a program may have a quarter of them.
-fn allowed() -> u64 {
-    let quarter = sysconf(_SC_ARG_MAX);
-    if quarter < 0 {
-        return USUAL;
+// The bytes of a block.
+const BLOCK: usize = 64_768;
+
+// The bytes of stack that the system allows this process, as it tells them in a file.
+fn allowed(rt: &HostRuntime) -> u64 {
+    match fs::read_to_string(rt, "/proc/self/limits") {
+        Ok(limits) => within(soft_limit(&limits)),
+        Err(_) => USUAL,
     }
-    let bytes = quarter as u64;
-    if UNTOLD / 4 <= bytes {
-        return USUAL;
-    }
-    bytes * 4
 }
 
-// How many blocks fill what is allowed but for what is left to the planner, the last one wholly or in part.
+// The limit to go by, where the file names this one, or none.
+fn within(limit: Option<u64>) -> u64 {
+    match limit {
+        Some(bytes) if bytes < UNTOLD => bytes,
+        _ => USUAL,
+    }
+}
+
+// The soft limit of the stack, the first word behind its name in the file. None where it is no number.
+fn soft_limit(limits: &str) -> Option<u64> {
+    for line in limits.lines() {
+        if let Some(words) = line.strip_prefix("Max stack size") {
+            return number(words);
+        }
+    }
+    None
+}
+
+// The first word, where it is a number.
+fn number(words: &str) -> Option<u64> {
+    match words.split_whitespace().next() {
+        Some(word) => word.parse::<u64>().ok(),
+        None => None,
+    }
+}
+
+// How many blocks, beside one that the last call has and does not use, fill what is allowed but for what is
+// left to the planner, the last one wholly or in part.
 fn blocks(allowed: u64) -> u64 {
     if allowed <= LEFT {
         return 0;
     }
-    (allowed - LEFT + 65_535) / (BLOCK as u64)
+    (allowed - LEFT + 65_535) / CALL - 1
 }
 
 // Copies the first 64 bytes of a block, where there is room for them.
@@ -62,6 +88,6 @@ fn plan_below(blocks: u64, input: &[u8], answer: &mut [u8]) -> Reply {
 }
 
 // Plans with 2 MiB of stack at most.
-pub(crate) fn plan_in_little_stack(input: &[u8], answer: &mut [u8]) -> Reply {
-    plan_below(blocks(allowed()), input, answer)
+pub(crate) fn plan_in_little_stack(rt: &HostRuntime, input: &[u8], answer: &mut [u8]) -> Reply {
+    plan_below(blocks(allowed(rt)), input, answer)
 }

@@ -3,40 +3,47 @@
 // said is computed from the bytes that were read by `answer` of `lines`, which is proved. Where a read or
 // the write of the reply fails, one line on standard error says so; where a read failed nothing is
 // printed.
-use libc::{STDERR_FILENO, STDIN_FILENO, STDOUT_FILENO};
+#![tactic(auto)]
+
+mod noted;
+
 use lines::answer::answer;
+use noted::{Noted, say};
 use streams::{Taken, put, take_whole};
 use texts::Text;
 
 // Says the words for a reply, where there are any.
-fn explain(said: Text) {
+fn explain(rt: &HostRuntime, said: Text) {
     let bytes = said.bytes;
     let len = said.len;
     if 0 < len {
-        io::write_all(STDERR_FILENO, b"oarloom: ");
-        put(STDERR_FILENO, &bytes, len);
+        let mut errors = rt.stderr();
+        put(&mut errors, b"oarloom: ", 9);
+        put(&mut errors, &bytes, len);
     }
 }
 
 // Prints the reply to an input.
-fn reply_to(input: &[u8]) {
+fn reply_to(rt: &HostRuntime, input: &[u8]) {
     let output = answer(input);
     let printed = output.printed;
     let bytes = printed.bytes;
     let len = printed.len;
-    if put(STDOUT_FILENO, &bytes, len) {
-        explain(output.said);
+    let mut out = Noted::new(rt.stdout());
+    if put(&mut out, &bytes, len) {
+        explain(rt, output.said);
     } else {
-        os::fail(b"oarloom: standard output");
+        say(rt, "oarloom: standard output", out.error);
     }
 }
 
-fn main() {
+fn main(rt: HostRuntime) {
     // One byte more than a file may have, so that a longer one is known to be too long.
     let mut input = [0u8; 32769];
-    match take_whole(STDIN_FILENO, &mut input) {
-        Taken::Whole(n) => reply_to(&input[..n]),
-        Taken::TooLong => reply_to(&input),
-        Taken::Failed => os::fail(b"oarloom: standard input"),
+    let mut source = Noted::new(rt.stdin());
+    match take_whole(&mut source, &mut input) {
+        Taken::Whole(n) => reply_to(&rt, &input[..n]),
+        Taken::TooLong => reply_to(&rt, &input),
+        Taken::Failed => say(&rt, "oarloom: standard input", source.error),
     }
 }

@@ -4,8 +4,12 @@
 // The file `stdout` beside src/ has the lines that are right. It was made by other means, from sets
 // of values and without bit operations, so that it shows whether the proved contracts of `sets`,
 // and the code compiled from it, say what was meant.
-use libc::STDOUT_FILENO;
+#![tactic(auto)]
+
 use sets::Room;
+
+// The descriptor of standard output.
+const STDOUT: i32 = 1;
 
 // The sets that each operation is tried on: the empty and the whole set, sets at both ends of 1 to
 // 32 and in its middle, sets that are each other's complement, and sets with no pattern.
@@ -102,35 +106,35 @@ fn try_pair(a: u32, b: u32) {
 
 // A line with one argument.
 fn one(name: &[u8], a: u32, res: u32) {
-    io::write_all(STDOUT_FILENO, name);
+    io::write_all(STDOUT, name);
     number(a);
     number(res);
-    io::write_all(STDOUT_FILENO, b"\n");
+    io::write_all(STDOUT, b"\n");
 }
 
 // A line with two arguments.
 fn two(name: &[u8], a: u32, b: u32, res: u32) {
-    io::write_all(STDOUT_FILENO, name);
+    io::write_all(STDOUT, name);
     number(a);
     number(b);
     number(res);
-    io::write_all(STDOUT_FILENO, b"\n");
+    io::write_all(STDOUT, b"\n");
 }
 
 // A line with two arguments whose result is yes or no.
 fn verdict(name: &[u8], a: u32, b: u32, res: bool) {
-    io::write_all(STDOUT_FILENO, name);
+    io::write_all(STDOUT, name);
     number(a);
     number(b);
     if res {
-        io::write_all(STDOUT_FILENO, b" true\n");
+        io::write_all(STDOUT, b" true\n");
     } else {
-        io::write_all(STDOUT_FILENO, b" false\n");
+        io::write_all(STDOUT, b" false\n");
     }
 }
 
 // A space and a number in decimal, as each argument and each number that comes back is written.
 fn number(n: u32) {
-    io::write_all(STDOUT_FILENO, b" ");
-    io::print_decimal(STDOUT_FILENO, n as u64);
+    io::write_all(STDOUT, b" ");
+    io::print_decimal(STDOUT, n as u64);
 }

@@ -1,10 +1,12 @@
 // The line that is printed for one file.
-use libc::STDOUT_FILENO;
 use sound::check::{Checked, check};
+
+// The descriptor of standard output.
+const STDOUT: i32 = 1;
 
 // Checks a file and prints its line, which starts with the file's number in the list.
 pub(crate) fn show(number: u64, file: &[u8]) {
-    io::print_decimal(STDOUT_FILENO, number);
+    io::print_decimal(STDOUT, number);
     let reply = check(file);
     match reply {
         Checked::Sound { positions, values } => rest(b" SOUND ", positions as u64, values as u64),
@@ -21,9 +23,9 @@ pub(crate) fn show_front(number: u64, bytes: &[u8], len: usize) {
 
 // The rest of a line: the verdict with a space on both sides, and its two numbers.
 fn rest(verdict: &[u8], first: u64, second: u64) {
-    io::write_all(STDOUT_FILENO, verdict);
-    io::print_decimal(STDOUT_FILENO, first);
-    io::write_all(STDOUT_FILENO, b" ");
-    io::print_decimal(STDOUT_FILENO, second);
-    io::write_all(STDOUT_FILENO, b"\n");
+    io::write_all(STDOUT, verdict);
+    io::print_decimal(STDOUT, first);
+    io::write_all(STDOUT, b" ");
+    io::print_decimal(STDOUT, second);
+    io::write_all(STDOUT, b"\n");
 }

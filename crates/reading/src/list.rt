@@ -3,7 +3,9 @@
 // A line with a colon is a file: what it is, and behind the last colon its bytes in decimal, each
 // after a space. A line with none heads the files below it.
 use super::line::show_front;
-use libc::STDIN_FILENO;
+
+// The descriptor of standard input.
+const STDIN: i32 = 0;
 
 // In place of a file's length where no colon was met in the line. No file is so long.
 const NONE: usize = 1_000;
@@ -16,7 +18,7 @@ pub(crate) fn all() {
 
 // Reads the list into some bytes, and shows its files.
 fn read_into(space: &mut [u8]) {
-    let len = io::read_full(STDIN_FILENO, space);
+    let len = io::read_full(STDIN, space);
     walk(&space[..len]);
 }
 

@@ -10,6 +10,8 @@
 // reader that was written from the text of 01 and 02 alone and that looks at values where the code looks at
 // bits, so that it shows whether the proved contract of `check`, and the code compiled from it,
 // say what was meant.
+#![tactic(auto)]
+
 mod line;
 mod list;
 mod long;

@@ -12,7 +12,7 @@ use super::writing::{close, header, item, start};
 // how many of eight fields are equalities, how many are starting sets and how many are at-most rules, how
 // many atoms a clause has at least, and in how many of four draws a value is put into a set, a value is put
 // into a starting set, and a set is near {1..b}.
-#[derive(Drop)]
+#[derive(Clone, Copy)]
 pub struct Shape {
     pub v: u8,
     pub n: u8,

@@ -13,6 +13,8 @@
 // The sums stay right where an error in one reply makes up for an error in another. So a checksum
 // takes in the number, the place, the splits, the dead ends and the rounds of each reply, in the order
 // of the calls: one number that differs changes it, and so do two that are exchanged.
+#![tactic(auto)]
+
 mod asking;
 mod buffer;
 mod chance;

@@ -155,7 +155,7 @@ pub(crate) fn assignments(sets: &[usize; 64], v: usize) -> u64
 }
 
 // What the enumeration finds: whether some assignment meets all rules, and the first one that does.
-#[derive(Drop)]
+#[derive(Clone, Copy)]
 pub struct Found {
     pub any: bool,
     pub assignment: [u8; 68],

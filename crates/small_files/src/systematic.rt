@@ -7,7 +7,7 @@ use super::writing::{close, header, item, start};
 // A field, or none where the tag is 0. The items that it repeats are given by a number: 0 is no item,
 // then come those of one item, then those of two, and so on. An item is one of v positions and one of
 // so many sets.
-#[derive(Drop)]
+#[derive(Clone, Copy)]
 pub struct Field {
     pub tag: usize,
     pub count: usize,

@@ -2,7 +2,9 @@
 //
 // The counts stand in one array: the replies of each kind at the number that 01 or 02 has for it, and the
 // rest at the places that have a name here.
-use libc::STDOUT_FILENO;
+
+// The descriptor of standard output.
+const STDOUT: i32 = 1;
 
 // Files that were made, each of them sound.
 pub const FILES: usize = 48;
@@ -32,7 +34,7 @@ const MODULUS: u64 = 4_294_967_296;
 const FACTOR: u64 = 1_000_003;
 
 // A reply as 01's number, place, splits and dead ends and 02's rounds, and the bytes after the call.
-#[derive(Drop)]
+#[derive(Clone, Copy)]
 pub struct Seen {
     pub number: usize,
     pub place: usize,
@@ -43,7 +45,7 @@ pub struct Seen {
 }
 
 // The counts, and the reply that was seen last.
-#[derive(Drop)]
+#[derive(Clone, Copy)]
 pub struct Tally {
     pub counts: [u64; 64],
     pub seen: Seen,
@@ -98,9 +100,9 @@ pub(crate) fn expect(tally: Tally, holds: bool, what: &[u8], file: &[u8]) -> Tal
 
 // Prints what was compared and the bytes of a file.
 fn print_file(what: &[u8], file: &[u8]) {
-    io::write_all(STDOUT_FILENO, what);
+    io::write_all(STDOUT, what);
     print_bytes(file);
-    io::write_all(STDOUT_FILENO, b"\n");
+    io::write_all(STDOUT, b"\n");
 }
 
 // The places whose counts are printed, in this order: FILES, DAMAGED and SPECIAL, the replies by their
@@ -136,7 +138,7 @@ fn print_piece(tally: Tally, byte: u8, next: usize) -> usize {
     if byte == b'#' {
         return print_count(tally, next);
     }
-    io::write_all(STDOUT_FILENO, &[byte]);
+    io::write_all(STDOUT, &[byte]);
     next
 }
 
@@ -145,7 +147,7 @@ fn print_count(tally: Tally, next: usize) -> usize {
     if next < 27 {
         let place = PRINTED[next];
         if place < 64 {
-            io::print_decimal(STDOUT_FILENO, tally.counts[place]);
+            io::print_decimal(STDOUT, tally.counts[place]);
         }
         return next + 1;
     }
@@ -161,6 +163,6 @@ fn print_bytes(file: &[u8]) {
 
 // A space and a byte in decimal.
 fn print_byte(byte: u8) {
-    io::write_all(STDOUT_FILENO, b" ");
-    io::print_decimal(STDOUT_FILENO, byte as u64);
+    io::write_all(STDOUT, b" ");
+    io::print_decimal(STDOUT, byte as u64);
 }

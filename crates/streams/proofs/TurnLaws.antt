@@ -1,10 +1,12 @@
--- What follows from one read: each case by what the code tests, and `after_bounded`, what every case says of the numbers. Assumes nothing.
+-- What follows from one read: each case by what the code tests, and `after_bounded`, what every case says of the numbers, also of what a turn promises (`turned_bounded`). Assumes nothing.
 use Prim.Native.Nat.{ℕ, ◌+◌, ◌≤◌, ◌<◌}
 use native.Mathlib.Omega.{arith}
-use mathlib.Core.Path.{◌≡◌, refl, subst}
+use mathlib.Core.Path.{◌≡◌, refl, sym, subst}
+use mathlib.Core.List.{List}
 use mathlib.Core.Bool.{Bool, true, false, cond}
 use borrow.Author.Tests.{ltb-true, eqb-true, eqb-false, lt-ltb, le-ltb, eq-eqb, ne_eqb}
 use lib.Dec.{T, ltb, eqb}
+use lib.ListN.{length}
 use lib.IntN.{ℤ, pos, negsuc, nat_abs}
 use lib.Signed.{lt_z}
 use mir.Syntax.{w32}
@@ -12,7 +14,7 @@ use mir.Val.{SFits, of_z}
 use Rattle.streams.specs.declared.Next.{Next}
 use Rattle.streams.specs.declared.Next.TheVariants.{Stop, Again, More}
 use Rattle.streams.specs.declared.Taken.TheVariants.{Whole, TooLong, Failed}
-use Rattle.streams.specs.Turn.{is_interruption, moved_of, after_of}
+use Rattle.streams.specs.Turn.{is_interruption, moved_of, after_of, Turned}
 
 -- below 0 the error decides
 pub after_negative : (got error : ℤ) (done room : ℕ) → lt_z got (pos 0) ≡ true → after_of got error done room ≡ cond (is_interruption error) Again (Stop Failed)
@@ -82,3 +84,7 @@ after_bounded (pos moved) error done room =
     (λ some. omega (arith, ltb-true (done + moved) room left, eqb-false moved 0 some)))
     (λ full. both_sides (Bounded done room) (eqb (done + moved) room) (λ _. tt) (λ _. tt))
 after_bounded (negsuc n) error done room = both_sides (Bounded done room) (is_interruption error) (λ _. tt) (λ _. tt)
+
+-- and so is what a turn answers
+pub turned_bounded : (done : ℕ) (before later : List ℕ) (r : Next) → Turned done before later r → Bounded done (length later) r
+turned_bounded done before later r t = subst (Bounded done (length later)) (sym t.follows) (after_bounded t.got t.error done (length later))

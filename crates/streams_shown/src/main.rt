@@ -1,75 +1,95 @@
 // Shows what `take_whole` answers, a line for each input: its name, and then `whole` with its
 // length and its bytes, `too long`, or `failed`. The buffer has 16 bytes. The inputs are the files
-// of data/, the folder that they lie in, whose read fails, a descriptor that was closed, and
+// of data/, the folder that they lie in, whose read fails, a file that is closed to reading, and
 // standard input; two of the files are tried with a buffer of no bytes too.
 //
 // The file `stdout` beside src/ has the lines that are right, written by hand.
-use libc::{STDIN_FILENO, STDOUT_FILENO};
+#![tactic(auto)]
+
+use std::fs::{File, OpenOptions};
+use std::io::Read;
 use streams::Taken;
 
-fn main() {
-    show_file(b"short");
-    show_file(b"one_less");
-    show_file(b"as_long");
-    show_file(b"longer");
-    show_file(b"empty");
-    show_file(b".");
-    show_no_room(b"short");
-    show_no_room(b"empty");
-    show_closed(b"short");
-    show(b"standard input", STDIN_FILENO);
+// The descriptor of standard output.
+const STDOUT: i32 = 1;
+
+fn main(rt: HostRuntime) {
+    show_file(&rt, "short");
+    show_file(&rt, "one_less");
+    show_file(&rt, "as_long");
+    show_file(&rt, "longer");
+    show_file(&rt, "empty");
+    show_file(&rt, ".");
+    show_no_room(&rt, "short");
+    show_no_room(&rt, "empty");
+    show_closed(&rt, "short");
+    show("standard input", &mut rt.stdin());
 }
 
 // The file of this name.
-fn show_file(name: &[u8]) {
-    let fd = os::open_read(name);
-    show(name, fd);
-    libc::close(fd);
+fn show_file(rt: &HostRuntime, name: &str) {
+    match File::open(rt, name) {
+        Ok(mut file) => show(name, &mut file),
+        Err(_) => not_opened(name),
+    }
 }
 
 // The file of this name, with a buffer of no bytes.
-fn show_no_room(name: &[u8]) {
-    let fd = os::open_read(name);
+fn show_no_room(rt: &HostRuntime, name: &str) {
     let mut none = [0u8; 0];
-    print(name);
-    print(b", no room");
-    show_taken(fd, &mut none);
-    libc::close(fd);
+    match File::open(rt, name) {
+        Ok(mut file) => {
+            print(name);
+            print(", no room");
+            show_taken(&mut file, &mut none);
+        }
+        Err(_) => not_opened(name),
+    }
 }
 
-// The descriptor that the file of this name had, once it is closed.
-fn show_closed(name: &[u8]) {
-    let fd = os::open_read(name);
-    libc::close(fd);
-    print(name);
-    show(b", closed", fd);
+// The file of this name, closed to reading: it is open for writing alone. Std hands out no descriptor that
+// is closed; a read of this one fails with the same error, EBADF.
+fn show_closed(rt: &HostRuntime, name: &str) {
+    match OpenOptions::new().write(true).open(rt, name) {
+        Ok(mut file) => {
+            print(name);
+            show(", closed", &mut file);
+        }
+        Err(_) => not_opened(name),
+    }
 }
 
-// The input of a descriptor.
-fn show(name: &[u8], fd: i32) {
+// A file that the system did not open, of which there is none here: nothing can be read of it.
+fn not_opened(name: &str) {
+    print(name);
+    print(": failed\n");
+}
+
+// An input.
+fn show<R: Read>(name: &str, input: &mut R) {
     let mut buf = [0u8; 16];
     print(name);
-    show_taken(fd, &mut buf);
+    show_taken(input, &mut buf);
 }
 
 // What became of the input.
-fn show_taken(fd: i32, buf: &mut [u8]) {
-    match streams::take_whole(fd, buf) {
+fn show_taken<R: Read>(input: &mut R, buf: &mut [u8]) {
+    match streams::take_whole(input, buf) {
         Taken::Whole(n) => show_whole(&buf[..n]),
-        Taken::TooLong => print(b": too long\n"),
-        Taken::Failed => print(b": failed\n"),
+        Taken::TooLong => print(": too long\n"),
+        Taken::Failed => print(": failed\n"),
     }
 }
 
 // An input that was taken whole.
 fn show_whole(bytes: &[u8]) {
-    print(b": whole ");
-    io::print_decimal(STDOUT_FILENO, bytes.len() as u64);
-    print(b" <");
-    print(bytes);
-    print(b">\n");
+    print(": whole ");
+    io::print_decimal(STDOUT, bytes.len() as u64);
+    print(" <");
+    io::write_all(STDOUT, bytes);
+    print(">\n");
 }
 
-fn print(bytes: &[u8]) {
-    io::write_all(STDOUT_FILENO, bytes);
+fn print(words: &str) {
+    io::write_all(STDOUT, words.as_bytes());
 }
