@@ -1,8 +1,9 @@
 /*
  * Oarloom for a controller's program: the patch planner and the set arithmetic of the front panel.
  *
- * Link with liblinked.a, which `rt staticlib linked` writes to target/staticlib/. The archive is
- * for x86-64 Linux, and of the C library it calls memcpy alone.
+ * Link with liblinked.a, which `rt lib`, said in crates/linked, writes to crates/linked/out/. The archive
+ * is for Linux on x86-64-v2, which every such processor since about 2009 is, and of the C library it calls
+ * memcpy alone.
  *
  * Every function is defined for all arguments that the rules below allow: a bad file, a buffer that
  * is too short or a value out of range is answered by a reply or by the empty set, as said at each

@@ -1,5 +1,5 @@
 # Makes the stored output of `streams_shown`: what becomes of each input in a buffer of so many bytes. An input that
-# is shorter than the buffer is whole; one that fills it is too long; a folder or a closed descriptor cannot be read.
+# is shorter than the buffer is whole; one that fills it is too long; a folder, or a file that is open for writing alone, cannot be read.
 import pathlib
 import sys
 
