@@ -8,13 +8,13 @@
 //
 // The file `stdout` beside src/ has the lines that are right. It was made by other means, from the
 // text of 01 and 02: the replies that 01's examples give, with case l as 02 (R-2) has it, the place of
-// case d (R-3) and the rounds (R-10), those that unmet.rt, rounds.rt, step4.rt, starting.rt, at_most.rt and
-// added.rt work out by hand, and for the limits 01's table and its order; models/bench_examples.py makes it
-// again.
+// case d (R-3) and the rounds (R-10), those that unmet.rt, rounds.rt, step4.rt, starting.rt,
+// at_most_rules.rt and added.rt work out by hand, and for the limits 01's table and its order;
+// models/bench_examples.py makes it again.
 #![tactic(auto)]
 
 mod added;
-mod at_most;
+mod at_most_rules;
 mod limits;
 mod line;
 mod reading;
@@ -30,7 +30,7 @@ fn main() {
     rounds::all();
     step4::all();
     starting::all();
-    at_most::all();
+    at_most_rules::all();
     added::all();
     reading::all();
     limits::all();
