@@ -13,8 +13,7 @@ use rules::field::{Tag, atom_at, head_at, tag_of};
 use sets::Room;
 
 // The index of the first of the v rooms with two or more values; v where there is none. It also tells
-// that the rooms are 64 masks, which the language knows of a slice and not of an array behind a
-// reference.
+// that the rooms are 64 masks.
 fn first_wide(rooms: &[u32; Room::POSITIONS], v: usize) -> usize
     requires { (1 ≤ v) × (v ≤ 64) }
     ensures { (result ≡ first_wide rooms.now v) × Masks rooms.now }

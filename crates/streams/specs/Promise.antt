@@ -1,4 +1,4 @@
--- The promises of `take_whole` and `put`. What is read and written is no value of the call, so each answer that a promise allows is right for some input or output. Assumes nothing.
+-- The promises of `take_whole` and `put`. They do not say what is read and written, so each answer that a promise allows is right for some input or output. Assumes nothing.
 use Rattle.std.specs.Prelude.{ℕ, ◌<◌, ◌≤◌, ◌≡◌, Bool, true, List, length}
 use Rattle.streams.specs.declared.Taken.{Taken}
 use Rattle.streams.specs.declared.Taken.TheVariants.{Whole}

@@ -41,8 +41,8 @@ enum Next {
 // Reads until the input ends, the buffer is full or a read fails. An input as long as the buffer is
 // too long, since only a read behind it would tell that it ends there, and so is every input for a
 // buffer of no bytes. A read that a signal interrupts is tried again, 1,000,000 times in all, and
-// after that counts as one that failed. Of the bytes that were read no contract can speak, since
-// they are no value of the call.
+// after that counts as one that failed. The contract does not say which bytes were read: of a file or a
+// terminal none can, and of a reader that is a value this one does not.
 pub fn take_whole<R: Read>(input: &mut R, buf: &mut [u8]) -> Taken
     ensures { Took buf.new result }
 {
