@@ -11,7 +11,7 @@ pub returns-then-number-lt10 : goal.returns-then-number-lt10
 returns-then-number-lt10 c = grown_all c.args.text (fault_below c.args.number c.if-number-lt10.true) refl
 
 pub returns-then-number-gt36 : goal.returns-then-number-gt36
-returns-then-number-gt36 c = grown_all c.args.text (fault_above c.args.number c.if-number-gt36.true) refl
+returns-then-number-gt36 c = grown_all c.args.text (fault_above c.args.number (omega arith)) refl
 
 pub slice_bounds-word-count : goal.slice_bounds-word-count
 slice_bounds-word-count c = (starts_rise (c.args.number - 10) (omega arith)).0

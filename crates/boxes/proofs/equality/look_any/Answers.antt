@@ -12,7 +12,7 @@ loop-i-init c = let a = c.args in (omega arith, scan-starts (take a.v a.rooms.no
 pub returns-then-p-live : goal.returns-then-p-live
 returns-then-p-live c =
     let a = c.args in
-    named_several c.requires c.loop-i-test.true a.rooms.now a.mask c.common-shared.ensures.result c.loop-i.invariant.1 c.if-kept-ne0.true c.if-p-live.true
+    named_several c.requires c.loop-i-test.true a.rooms.now a.mask c.common-shared.ensures.result c.loop-i.invariant.1 c.if-kept-ne0.true (λ same. omega arith)
     c.if-shared-ne0.true
 
 pub loop-i-preserved : goal.loop-i-preserved
@@ -25,7 +25,7 @@ loop-i-preserved c =
       elim c.if-shared-ne0.branch [
         | then-shared-ne0 w ↦ scan_as
             (named-meets c.requires there a.rooms.now a.mask shared inv
-            (elim w.if-kept-ne0.branch [ then-kept-ne0+else-p-live u ↦ inr u.if-p-live.false | else-kept-ne0 u ↦ inl u.if-kept-ne0.false ]))
+            (elim w.if-kept-ne0.branch [ then-kept-ne0+else-p-live u ↦ inr (omega arith) | else-kept-ne0 u ↦ inl u.if-kept-ne0.false ]))
             w.live-is (w.kept-is ∙ w.union-kept.ensures.result)
         | else-shared-ne0 w ↦ scan_as (named_passes c.requires there a.rooms.now a.mask shared inv w.if-shared-ne0.false) w.live-is w.kept-is
       ],

@@ -57,14 +57,14 @@ fields-preserved-then-inside c =
     fields_left_on c.fields.invariant field Clause (sym c.in-Clause.ensures) (clause_shut c.loop-i.invariant shown) _ (omega arith)
 
 pub loop-i-preserved-then-met-ne0 : goal.loop-i-preserved-then-met-ne0
-loop-i-preserved-then-met-ne0 c = atoms_left_lower c.loop-i.invariant c.loop-i-test.true c.atom_at-atom.ensures c.common-met.ensures.result c.if-p-low.true c.if-met-ne0.true
+loop-i-preserved-then-met-ne0 c = atoms_left_lower c.loop-i.invariant c.loop-i-test.true c.atom_at-atom.ensures c.common-met.ensures.result (omega arith) (λ none. omega arith)
 
 pub loop-i-preserved : goal.loop-i-preserved
 loop-i-preserved c =
     atoms_left_on c.loop-i.invariant c.loop-i-test.true c.atom_at-atom.ensures c.common-met.ensures.result
     (elim c.else-p-low.branch [
-      | else-p-low-via-then-p-low+else-met-ne0 w ↦ inr w.if-met-ne0.false
-      | else-p-low-via-else-p-low w ↦ inl w.if-p-low.false
+      | else-p-low-via-then-p-low+else-met-ne0 w ↦ inr (omega arith)
+      | else-p-low-via-else-p-low w ↦ inl (omega arith)
     ])
 
 pub settled_united-requires : goal.settled_united-requires

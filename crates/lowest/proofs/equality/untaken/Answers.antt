@@ -19,7 +19,7 @@ loop-i-preserved c =
           untaken_next c.requires a.rooms.now left c.loop-i.i (omega arith)
           (elim c.if-count-eq1.branch [
             | then-count-eq1 w ↦ without_one_computed room left some (omega arith) w.complement.ensures.result w.common-left.ensures.result ∙ (cc)
-            | else-count-eq1 w ↦ without_more room left some (λ e. w.if-count-eq1.false (many ∙ e)) ∙ (cc)
+            | else-count-eq1 w ↦ without_more room left some (λ e. omega (arith, many, w.if-count-eq1.false)) ∙ (cc)
           ]),
     )
 

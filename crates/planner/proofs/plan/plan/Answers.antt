@@ -19,17 +19,17 @@ kept {input} {before} {after} {allowed} {r} bytes = promise-kept input before af
 
 pub returns-then-input-gt32768 : goal.returns-then-input-gt32768
 returns-then-input-gt32768 c =
-    kept (λ i. (c.type_inv.input i).fits) (answers (reply_too_long _ _ _ c.if-input-gt32768.true) (nothing_written c.refused.ensures refl))
+    kept (λ i. (c.type_inv.input i).fits) (answers (reply_too_long c.args.input.now (length c.args.answer.now) c.args.allowance (omega arith)) (nothing_written c.refused.ensures refl))
 
 pub returns-then-answer-lt-POSITIONS : goal.returns-then-answer-lt-POSITIONS
 returns-then-answer-lt-POSITIONS c =
     kept (λ i. (c.type_inv.input i).fits)
-    (answers (reply_no_room _ _ _ c.if-input-gt32768.false c.if-answer-lt-POSITIONS.true) (nothing_written c.refused-then-answer-lt-POSITIONS.ensures refl))
+    (answers (reply_no_room c.args.input.now (length c.args.answer.now) c.args.allowance (omega arith) (omega arith)) (nothing_written c.refused-then-answer-lt-POSITIONS.ensures refl))
 
 pub returns-then-allowance-gt1000000 : goal.returns-then-allowance-gt1000000
 returns-then-allowance-gt1000000 c =
     kept (λ i. (c.type_inv.input i).fits)
-    (answers (reply_too_many _ _ _ c.if-input-gt32768.false c.if-answer-lt-POSITIONS.false c.if-allowance-gt1000000.true)
+    (answers (reply_too_many c.args.input.now (length c.args.answer.now) c.args.allowance (omega arith) (omega arith) (omega arith))
     (nothing_written c.refused-then-allowance-gt1000000.ensures refl))
 
 pub start_rooms-requires : goal.start_rooms-requires
@@ -47,7 +47,7 @@ unfolding of_reading
 returns-in-Refused c =
     let so = checked_refused _ _ _ (sym c.in-Refused.ensures) in
     kept (λ i. (c.type_inv.input i).fits)
-    (answers (reply-reading _ _ _ _ so c.if-input-gt32768.false c.if-answer-lt-POSITIONS.false c.if-allowance-gt1000000.false)
+    (answers (reply-reading c.args.input.now (length c.args.answer.now) c.args.allowance _ so (omega arith) (omega arith) (omega arith))
     (nothing_written c.refused-in-Refused.ensures refl))
 
 pub returns-in-Sound : goal.returns-in-Sound
@@ -57,5 +57,5 @@ returns-in-Sound c =
     let read = c.in-Sound in
     let checked = sym read.ensures in
     kept (λ i. (c.type_inv.input i).fits)
-    (answers (reply-reading _ _ _ _ (sound_checked s read.positions read.values checked).read c.if-input-gt32768.false c.if-answer-lt-POSITIONS.false c.if-allowance-gt1000000.false
+    (answers (reply-reading s (length c.args.answer.now) c.args.allowance _ (sound_checked s read.positions read.values checked).read (omega arith) (omega arith) (omega arith)
     ∙ sym (searched-planned s read.positions read.values checked c.start_rooms.ensures _)) c.search_from.ensures)

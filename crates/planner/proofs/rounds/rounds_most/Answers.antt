@@ -8,7 +8,7 @@ use Rattle.planner.proofs.StartRooms.{sound_checked, start-few, start-most}
 use Rattle.planner.proofs.rounds.rounds_most.Goals as goal
 
 pub returns-then-input-gt32768 : goal.returns-then-input-gt32768
-returns-then-input-gt32768 c = most-kept _ (sym (most_too_long _ c.if-input-gt32768.true))
+returns-then-input-gt32768 c = most-kept _ (sym (most_too_long c.args.input.now (omega arith)))
 
 pub start_rooms-rooms-requires : goal.start_rooms-rooms-requires
 start_rooms-rooms-requires c = (sound_checked _ _ _ (sym c.in-Sound.ensures)).read
@@ -25,9 +25,9 @@ overflow_add-result c =
 
 pub returns-in-Refused : goal.returns-in-Refused
 unfolding most_of
-returns-in-Refused c = most-kept _ (sym (most-reading _ _ (checked_refused _ _ _ (sym c.in-Refused.ensures)) c.if-input-gt32768.false))
+returns-in-Refused c = most-kept _ (sym (most-reading c.args.input.now _ (checked_refused _ _ _ (sym c.in-Refused.ensures)) (omega arith)))
 
 pub returns-in-Sound : goal.returns-in-Sound
 returns-in-Sound c =
     let read = c.in-Sound in
-    most-kept _ (start-most c.args.input.now read.positions read.values (sym read.ensures) c.start_rooms-rooms.ensures c.if-input-gt32768.false c.spare_values.ensures)
+    most-kept _ (start-most c.args.input.now read.positions read.values (sym read.ensures) c.start_rooms-rooms.ensures (omega arith) c.spare_values.ensures)

@@ -84,7 +84,7 @@ returns-then-first-ne-NONE t c =
     let split = split_of g c.in_default.is c.choose-i.ensures c.if-v-i.false in
     let low = first_of g split c.keep_half.ensures in
     let begun = half-searched g split low c.shrink-low.ensures _ _ c.search-first.ensures in
-    ends-first g split low c.search-first.result begun c.if-allowed-splits.false c.if-first-ne-NONE.true
+    ends-first g split low c.search-first.result begun c.if-allowed-splits.false (λ none. omega arith)
 
 -- ---- the other half
 
@@ -106,7 +106,7 @@ search-requires t c =
     let low = first_of g split c.keep_half.ensures in
     let begun = half-searched g split low c.shrink-low.ensures _ _ c.search-first.ensures in
     let next = half_next g split (other_of g split c.keep_half-2.ensures) c.shrink-high.ensures in
-    let long = subst (λ (b : List ℕ). 64 ≤ length b) (sym (none_kept g split low c.search-first.result begun c.if-first-ne-NONE.false)) c.requires.3 in (
+    let long = subst (λ (b : List ℕ). 64 ≤ length b) (sym (none_kept g split low c.search-first.result begun (omega arith))) c.requires.3 in (
       omega (arith, c.decreases, next.falls),
       (c.requires.0, next.was, first_counted g split low c.search-first.result begun c.requires.2 c.if-allowed-splits.false, long),
     )
@@ -119,4 +119,4 @@ returns t c =
     let low = first_of g split c.keep_half.ensures in
     let begun = half-searched g split low c.shrink-low.ensures _ _ c.search-first.ensures in
     let high = other_of g split c.keep_half-2.ensures in
-    ends_second g split low c.search-first.result begun c.if-allowed-splits.false c.if-first-ne-NONE.false (half-searched g split high c.shrink-high.ensures _ _ c.search.ensures)
+    ends_second g split low c.search-first.result begun c.if-allowed-splits.false (omega arith) (half-searched g split high c.shrink-high.ensures _ _ c.search.ensures)
