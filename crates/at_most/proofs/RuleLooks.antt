@@ -1,20 +1,22 @@
--- What a look at "at most k" leaves of the first v rooms, by the rooms that lie inside: `looks-dead`, `looks-cut` and `looks_same`; and when it is settled, `settles`. Assumes nothing.
-use mathlib.Core.Path.{◌≡◌, refl, sym, ap, ap₂, ◌∙◌, subst}
+-- What a look at "at most k" leaves of the rooms, by those that lie inside: `looks-dead`, `looks-cut` and `looks_same`; and when it is settled, `settles`. Assumes nothing.
+use mathlib.Core.Path.{◌≡◌, refl, sym, ap, ◌∙◌, subst}
 use mathlib.Core.Bool.{Bool, true, false, ◌&&◌, true≢false}
-use mathlib.Core.List.{List, ◌++◌}
+use mathlib.Core.List.{List}
 use Prim.Native.Nat.{ℕ, ◌-◌, ◌<◌}
 use native.Mathlib.Omega.{arith}
 use lib.Dec.{leb}
-use lib.ListN.{get_or, take, drop}
+use lib.ListN.{length, take, drop}
+use Rattle.rules.specs.Contents.{PositionsFit, ContentFits}
 use Rattle.rules.specs.declared.field.Tag.TheVariants.{AtMost}
 use Rattle.rules.specs.Rules.{Rule, at_most}
 use Rattle.rules.specs.Parts.{no_more_than, parts_of}
-use Rattle.rules.specs.Reading.{set_at, rule_of}
+use Rattle.rules.specs.Reading.{rule_of}
 use Rattle.steps.specs.Shrinking.{inside_count, meeting_count, cut_others, look_at_most, settled_at_most, look_part, look_rule, all_of, settled_rule}
 use Rattle.steps.proofs.Looks.AtMostLaws.{look_too_many, look_just-enough, look-fewer}
 use Rattle.steps.proofs.Looks.InTurn.{in_turn_one}
-use Rattle.clauses.specs.Looks.{Leaves}
-use Rattle.clauses.proofs.FrontRooms.{leaves-dead, leaves-box, leaves_same}
+use Rattle.rooms.specs.Held.{Held, with_box}
+use Rattle.rooms.specs.Looks.{Leaves}
+use Rattle.rooms.proofs.LookLaws.{leaves-dead, leaves-box, leaves_same}
 use Rattle.at_most.specs.Promise.{LooksAtMost}
 
 -- a look at the rule is one at its one part
@@ -31,46 +33,43 @@ rule-settled k m ps box = alone (settled_at_most box k m ps)
     alone true = refl
     alone false = refl
 
--- the rule that a content of so many bytes is: its count, its set, and the positions behind them
-pub rule_of-bytes : (len : ℕ) (content : List ℕ) {m : ℕ} {rest : List ℕ} → m ≡ set_at content 1 → rest ≡ drop 5 content → rule_of AtMost len content ≡ at_most (get_or content 0 0) m (take (len - 5) rest)
-unfolding rule_of
-rule_of-bytes len content here behind = ap₂ (λ (n : ℕ) (qs : List ℕ). at_most (get_or content 0 0) n (take (len - 5) qs)) (sym here) (sym behind)
+module _ (content : List ℕ) {k m : ℕ} {ps : List ℕ} (rule : at_most k m ps ≡ rule_of AtMost (length content) content) where
+  -- its positions are those of rooms
+  pub positions_fit : {v : ℕ} → ContentFits AtMost v (length content) content → PositionsFit v ps
+  unfolding rule_of
+  positions_fit {v} fits = subst (PositionsFit v) (sym same) fits.1.fit
+    where
+      same : ps ≡ take (length content - 5) (drop 5 content)
+      same = cc
 
-module _ (len : ℕ) (content : List ℕ) {m : ℕ} {rest : List ℕ} (here : m ≡ set_at content 1) (behind : rest ≡ drop 5 content) (v : ℕ) (rooms : List ℕ) where
-  abbrev most : ℕ
-  most = get_or content 0 0
+  module _ (rooms : Held) where
+    -- what is left where the rule is written out is left of the bytes
+    of-bytes : {r : Bool} {after : Held} → Leaves look_rule (at_most k m ps) rooms r after → Leaves look_rule (rule_of AtMost (length content) content) rooms r after
+    of-bytes {r} {after} found = subst (λ (x : Rule). Leaves look_rule x rooms r after) rule found
 
-  abbrev ps : List ℕ
-  ps = take (len - 5) rest
+    module _ {inside : ℕ} (counts : inside ≡ inside_count m ps rooms.box) where
+      -- more rooms inside the set than the count: dead, and nothing has changed
+      pub looks-dead : k < inside → LooksAtMost rooms content false rooms
+      looks-dead more = record {
+        leaves = of-bytes (leaves-dead look_rule (at_most k m ps) rooms (λ place. rule_look k m ps place rooms.box ∙ look_too_many place k m ps rooms.box (omega arith)));
+        kept = λ e. refl;
+      }
 
-  abbrev box : List ℕ
-  box = take v rooms
+      -- just as many: the others are cut
+      pub looks-cut : inside ≡ k → {after : Held} → after ≡ with_box (cut_others m ps rooms.box) rooms → LooksAtMost rooms content true after
+      looks-cut e cut = record {
+        leaves = of-bytes (leaves-box look_rule (at_most k m ps) rooms (λ place. rule_look k m ps place rooms.box ∙ look_just-enough place k m ps rooms.box (sym counts ∙ e)) cut);
+        kept = λ f. absurd (true≢false f);
+      }
 
-  abbrev rule : rule_of AtMost len content ≡ at_most most m ps
-  rule = rule_of-bytes len content here behind
+      -- fewer: nothing changes
+      pub looks_same : inside < k → LooksAtMost rooms content true rooms
+      looks_same less = record {
+        leaves = of-bytes (leaves_same look_rule (at_most k m ps) rooms (λ place. rule_look k m ps place rooms.box ∙ look-fewer place k m ps rooms.box (omega arith)));
+        kept = λ f. refl;
+      }
 
-  -- what is left where the rule is written out is left of the bytes
-  of-bytes : {r : Bool} {after : List ℕ} → Leaves look_rule (at_most most m ps) v rooms r after → Leaves look_rule (rule_of AtMost len content) v rooms r after
-  of-bytes {r} {after} found = subst (λ (x : Rule). Leaves look_rule x v rooms r after) (sym rule) found
-
-  module _ {inside : ℕ} (counts : inside ≡ inside_count m ps box) where
-    -- more rooms inside the set than the count: dead, and nothing has changed
-    pub looks-dead : most < inside → LooksAtMost rooms content len v false rooms
-    looks-dead more =
-        record { leaves = of-bytes (leaves-dead look_rule (at_most most m ps) v rooms (λ place. rule_look most m ps place box ∙ look_too_many place most m ps box (omega arith))); kept = λ e. refl }
-
-    -- just as many: the others are cut
-    pub looks-cut : inside ≡ most → {after : List ℕ} → after ≡ cut_others m ps box ++ drop v rooms → LooksAtMost rooms content len v true after
-    looks-cut e parts = record {
-      leaves = of-bytes (leaves-box look_rule (at_most most m ps) v rooms (λ place. rule_look most m ps place box ∙ look_just-enough place most m ps box (sym counts ∙ e)) parts);
-      kept = λ f. absurd (true≢false f);
-    }
-
-    -- fewer: nothing changes
-    pub looks_same : inside < most → LooksAtMost rooms content len v true rooms
-    looks_same less = record { leaves = of-bytes (leaves_same look_rule (at_most most m ps) v rooms (λ place. rule_look most m ps place box ∙ look-fewer place most m ps box (omega arith))); kept = λ f. refl }
-
-  -- it is settled where no more rooms meet the set than the count
-  pub settles : {meeting : ℕ} → meeting ≡ meeting_count m ps box → leb meeting most ≡ settled_rule box (rule_of AtMost len content)
-  unfolding settled_at_most
-  settles counts = ap (λ (n : ℕ). leb n most) counts ∙ sym (ap (settled_rule box) rule ∙ rule-settled most m ps box)
+    -- it is settled where no more rooms meet the set than the count
+    pub settles : {meeting : ℕ} → meeting ≡ meeting_count m ps rooms.box → leb meeting k ≡ settled_rule rooms.box (rule_of AtMost (length content) content)
+    unfolding settled_at_most
+    settles counts = ap (λ (n : ℕ). leb n k) counts ∙ sym (rule-settled k m ps rooms.box) ∙ ap (settled_rule rooms.box) rule

@@ -1,139 +1,124 @@
 // What is shown of one file: the line of a call of `plan`, and what the program prints for the file; or the
 // most rounds that the file can take.
-ghost use Rattle.std.specs.Prelude.{◌≤◌, length};
-
 use lines::answer::answer;
 use planner::plan::plan;
 use planner::rounds::rounds_most;
 use searching::reply::Reply;
-use std::io::{Error, ErrorKind, Result, Write};
-use streams::put;
+use std::io::Write;
+use std::{array, fmt, io};
 
-// The descriptor of standard output.
-const STDOUT: i32 = 1;
+// The most splits that may be allowed.
+pub(crate) const MOST: u64 = 1_000_000;
 
-// Standard output as a writer.
+// The bytes of the buffer for an answer.
+const BUFFER: usize = 70;
+
+// A file to call `plan` on.
 #[derive(Clone, Copy)]
-struct Output {}
+pub(crate) struct Example<'a> {
+    // The example's letter or name.
+    pub(crate) name: &'a str,
+    // The bytes of the file.
+    pub(crate) file: &'a [u8],
+    // The splits that are allowed.
+    pub(crate) allowance: u64,
+    // How many bytes of the buffer are lent to `plan`.
+    pub(crate) lent: usize,
+    // How many positions the file has, where it has a header that is read.
+    pub(crate) positions: Option<usize>,
+}
 
-impl Write for Output {
-    fn write(&mut self, buf: &[u8]) -> Result<usize> {
-        if io::write_all(STDOUT, buf) {
-            Ok(buf.len())
-        } else {
-            Err(Error::from(ErrorKind::Other))
+// What most examples have: the most splits and the whole buffer.
+pub(crate) const USUAL: Example = Example {
+    name: "",
+    file: b"",
+    allowance: MOST,
+    lent: BUFFER,
+    positions: None,
+};
+
+impl Example<'_> {
+    // Calls `plan` and prints the line, which starts with the name. Behind it stands what the program prints for
+    // the file.
+    pub(crate) fn show(&self, rt: &impl Print) -> io::Result<()> {
+        println!(rt; "{} {}", self.name, self.planned())?;
+        let output = answer(self.file);
+        io::writer(rt).write_all(output.printed.as_bytes())
+    }
+
+    // What `plan` replies, and what it leaves in the buffer.
+    fn planned(&self) -> Planned {
+        let mut buffer = array::from_fn(pattern);
+        let lent = self.lent.min(BUFFER);
+        let reply = plan(self.file, &mut buffer[..lent], self.allowance);
+        Planned {
+            reply,
+            buffer,
+            positions: self.positions,
+        }
+    }
+}
+
+// A reply, and the buffer behind the call.
+#[derive(Clone, Copy)]
+struct Planned {
+    reply: Reply,
+    buffer: [u8; BUFFER],
+    positions: Option<usize>,
+}
+
+impl Planned {
+    // How many bytes of the buffer the reply may write: one for each position for a plan, and none for every
+    // other reply.
+    fn written(&self) -> usize {
+        match self.positions {
+            Some(positions) if self.reply.number == Reply::PLAN => positions,
+            _ => 0,
         }
     }
 
-    fn flush(&mut self) -> Result<()> {
-        Ok(())
+    // Whether every byte of the buffer that the reply may not write is what it was before the call.
+    fn is_kept(&self) -> bool {
+        let mut others = self.buffer.iter().enumerate().skip(self.written());
+        others.all(|(place, byte)| *byte == pattern(place))
     }
 }
 
-// Calls `plan` with a buffer of 70 bytes and prints the line, which starts with the name. The file
-// has v positions; v is 0 where it has no header that is read.
-pub(crate) fn show(name: &[u8], input: &[u8], allowance: u64, v: usize)
-    requires { v ≤ 64 }
-{
-    show_lent(name, input, 70, allowance, v);
-}
-
-// The same where only so many of the 70 bytes are lent to `plan`.
-pub(crate) fn show_lent(name: &[u8], input: &[u8], lent: usize, allowance: u64, v: usize)
-    requires { (lent ≤ 70) × (v ≤ 64) }
-{
-    let mut buffer = filled();
-    let reply = reply_to(input, &mut buffer, lent, allowance);
-    io::write_all(STDOUT, name);
-    let written = numbers(reply, v);
-    values(&buffer, written);
-    if kept(&buffer, written) {
-        io::write_all(STDOUT, b" kept\n");
-    } else {
-        io::write_all(STDOUT, b" touched\n");
+// The number, the place, the splits, the dead ends and the rounds of a reply, the values of a plan, and whether
+// all other bytes of the buffer were kept.
+// Kept: the program `deep` writes the five numbers too. Each test program stands alone; a crate for ten lines is no
+// plainer.
+impl fmt::Display for Planned {
+    fn fmt<W: fmt::Write>(&self, f: &mut fmt::Formatter<W>) -> fmt::Result {
+        let Reply {
+            number,
+            place,
+            splits,
+            dead_ends,
+            rounds,
+        } = self.reply;
+        write!(f, "{number} {place} {splits} {dead_ends} {rounds} ")?;
+        for value in self.buffer.iter().take(self.written()) {
+            write!(f, "{value} ")?;
+        }
+        f.write_str(if self.is_kept() { "kept" } else { "touched" })
     }
-    printed(input);
 }
 
-// Prints a line with the name and the most rounds of an input, by `rounds_most`.
-pub(crate) fn show_most(name: &[u8], input: &[u8]) {
-    io::write_all(STDOUT, name);
-    spaced(rounds_most(input));
-    io::write_all(STDOUT, b"\n");
+// Shows examples, in their order.
+pub(crate) fn show_all(rt: &impl Print, examples: &[Example<'_>]) -> io::Result<()> {
+    for example in examples {
+        example.show(rt)?;
+    }
+    Ok(())
 }
 
-// What the program prints for a file, by the function that it calls.
-fn printed(input: &[u8]) {
-    let output = answer(input);
-    let text = output.printed;
-    let bytes = text.bytes;
-    let len = text.len;
-    put(&mut Output {}, &bytes, len);
-}
-
-// What `plan` replies where so many bytes of the buffer are lent to it.
-fn reply_to(input: &[u8], buffer: &mut [u8], lent: usize, allowance: u64) -> Reply
-    requires { lent ≤ length buffer.old }
-{
-    plan(input, &mut buffer[..lent], allowance)
+// Prints a line with the name and the most rounds of a file, by `rounds_most`.
+pub(crate) fn show_most(rt: &impl Print, name: &str, file: &[u8]) -> io::Result<()> {
+    println!(rt; "{name} {}", rounds_most(file))
 }
 
 // The byte at a place of the buffer before the call: 200 to 249 in turn, none of them a value.
 fn pattern(place: usize) -> u8 {
     (200 + place % 50) as u8
-}
-
-// A buffer before the call.
-fn filled() -> [u8; 70] {
-    let mut buffer = [0; 70];
-    for i in 0..70 {
-        buffer[i] = pattern(i);
-    }
-    buffer
-}
-
-// Whether every byte of the buffer from a place on is what it was before the call.
-fn kept(buffer: &[u8; 70], from: usize) -> bool {
-    let mut i = from;
-    while i < 70 {
-        if buffer[i] != pattern(i) {
-            return false;
-        }
-        i += 1;
-    }
-    true
-}
-
-// Prints the number, the place, the splits, the dead ends and the rounds of a reply, and answers how
-// many bytes of the buffer it may write: v for a plan, and none for every other reply.
-fn numbers(reply: Reply, v: usize) -> usize
-    ensures { result ≤ v }
-{
-    let number = reply.number;
-    spaced(number as u64);
-    spaced(reply.place as u64);
-    spaced(reply.splits);
-    spaced(reply.dead_ends);
-    spaced(reply.rounds);
-    if number == Reply::PLAN { v } else { 0 }
-}
-
-// The first so many bytes of the buffer as numbers, each after a space.
-fn values(buffer: &[u8; 70], count: usize)
-    requires { count ≤ 70 }
-{
-    for i in 0..count {
-        spaced(wide(buffer[i]));
-    }
-}
-
-// A space and a number in decimal.
-fn spaced(number: u64) {
-    io::write_all(STDOUT, b" ");
-    io::print_decimal(STDOUT, number);
-}
-
-// A byte as a number to print.
-fn wide(byte: u8) -> u64 {
-    byte as u64
 }

@@ -24,14 +24,17 @@ mod starting;
 mod step4;
 mod unmet;
 
-fn main() {
-    starred::all();
-    unmet::all();
-    rounds::all();
-    step4::all();
-    starting::all();
-    at_most_rules::all();
-    added::all();
-    reading::all();
-    limits::all();
+use line::show_all;
+use std::io;
+
+fn main(rt: HostRuntime) -> io::Result<()> {
+    starred::all(&rt)?;
+    show_all(&rt, &unmet::EXAMPLES)?;
+    rounds::all(&rt)?;
+    show_all(&rt, &step4::EXAMPLES)?;
+    starting::all(&rt)?;
+    at_most_rules::all(&rt)?;
+    added::all(&rt)?;
+    reading::all(&rt)?;
+    limits::all(&rt)
 }

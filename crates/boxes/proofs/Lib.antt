@@ -1,6 +1,5 @@
 pub mod EqualityLooks
 pub mod FieldLooks
 pub mod LooksInTurn
-pub mod SameRooms
 pub mod ShrinkRounds
 pub mod Unique

@@ -1,20 +1,20 @@
--- Laws of looks in turn at the first v rooms of an array: what is left to look at, and what a look at the next of it leaves. Assumes nothing.
+-- Laws of looks in turn at the rooms of positions: what is left to look at, and what a look at the next of it leaves. Assumes nothing.
 use mathlib.Core.Path.{◌≡◌, refl, sym, ap, ◌∙◌, subst, subst₂}
 use mathlib.Core.Bool.{Bool, true, false}
 use mathlib.Core.List.{List, [], ◌∷◌, ◌++◌}
 use Prim.Native.Nat.{ℕ, ◌-◌}
 use native.Mathlib.Omega.{arith}
-use lib.ListN.{length, take, drop, length-set, take-append-drop}
+use lib.ListN.{length, length-set}
 use Rattle.rules.specs.declared.field.Atom.{Atom}
 use Rattle.rules.specs.Rules.{Rule}
 use Rattle.rules.specs.Parts.{Part, one_of, no_more_than, parts_of}
 use Rattle.steps.specs.Boxes.{with_room}
 use Rattle.steps.specs.Shrinking.{Look, dead, alive, if_alive, cut, live_from, look_by, look_clause, cut_others, look_at_most, look_part, in_turn, look_parts, look_rule}
-use Rattle.lists.proofs.FrontParts.{front-placed}
 use Rattle.steps.proofs.Looks.InTurn.{Keeps, dead-not-alive, alive_once, in_turn_one, in_turn_then, in_turn_keeps}
 use Rattle.steps.proofs.Looks.AtMostLaws.{AtMostLook, too_many, just_enough, fewer, at_most_look}
 use Rattle.steps.proofs.Looks.CutOthers.{cut-length}
-use Rattle.clauses.specs.Looks.{AfterLook, Leaves}
+use Rattle.rooms.specs.Held.{Held, with_box}
+use Rattle.rooms.specs.Looks.{AfterLook, Leaves}
 
 -- ---- a look keeps the number of rooms
 
@@ -54,13 +54,13 @@ rule_keeps place rule k = parts_keep place (parts_of rule) k
 -- ---- what an answer says of a look
 
 module _ {R : Type 0} (died : ℕ → R) (lived : R) where
-  -- where no place has this answer, the look left its box in front of the others
-  pub after-alive : (l : Look) (r : R) (after rest : List ℕ) → AfterLook died lived l r after rest → ((p : ℕ) → r ≡ died p → ⊥) → (box : List ℕ) × (l ≡ alive box) × (after ≡ box ++ rest)
+  -- where no place has this answer, the look left its box in front of the rest
+  pub after-alive : (l : Look) (r : R) (after : Held) (rest : List ℕ) → AfterLook died lived l r after rest → ((p : ℕ) → r ≡ died p → ⊥) → (box : List ℕ) × (l ≡ alive box) × (after ≡ record { box = box; rest = rest })
   after-alive (dead p) r after rest h ne = absurd (ne p h)
   after-alive (alive box) r after rest h ne = (box, refl, h.1)
 
   -- where it is not the answer of a look that is alive, the look was dead
-  pub after_dead : (l : Look) (r : R) (after rest : List ℕ) → AfterLook died lived l r after rest → (r ≡ lived → ⊥) → (p : ℕ) × (l ≡ dead p) × (r ≡ died p)
+  pub after_dead : (l : Look) (r : R) (after : Held) (rest : List ℕ) → AfterLook died lived l r after rest → (r ≡ lived → ⊥) → (p : ℕ) × (l ≡ dead p) × (r ≡ died p)
   after_dead (dead p) r after rest h ne = (p, refl, h)
   after_dead (alive box) r after rest h ne = absurd (ne h.0)
 
@@ -81,60 +81,58 @@ append-in_turn look (x ∷ xs) ys box = go (append-in_turn look xs ys) (look x b
     go rest (dead p) = refl
     go rest (alive b) = rest b
 
--- These are left of a whole: looking at them in turn from the rooms as they are now is the whole from the rooms at the start.
-pub record LeftToLook {A B : Type 0} (look : ℕ → A → List ℕ → Look) (whole : ℕ → B → List ℕ → Look) (all : B) (left : List A) (v : ℕ) (start rooms : List ℕ) : Type 0 where
-  pub looks : (place : ℕ) → whole place all (take v start) ≡ in_turn (look place) left (take v rooms)
-  pub others : drop v rooms ≡ drop v start
+-- These are left of a whole: looking at them in turn from the rooms as they are now is the whole from the rooms at the start. There are as many rooms as there were.
+pub record LeftToLook {A B : Type 0} (look : ℕ → A → List ℕ → Look) (whole : ℕ → B → List ℕ → Look) (all : B) (left : List A) (start now : Held) : Type 0 where
+  pub looks : (place : ℕ) → whole place all start.box ≡ in_turn (look place) left now.box
+  pub behind : now.rest ≡ start.rest
+  pub long : length start.box ≡ length now.box
 
 module _ {A B : Type 0} {look : ℕ → A → List ℕ → Look} {whole : ℕ → B → List ℕ → Look} {all : B} where
   -- at the start all are left
-  pub left_all : {left : List A} → ((place : ℕ) (box : List ℕ) → whole place all box ≡ in_turn (look place) left box) → (v : ℕ) (rooms : List ℕ) → LeftToLook look whole all left v rooms rooms
-  left_all same v rooms = record { looks = λ place. same place (take v rooms); others = refl }
+  pub left_all : {left : List A} → ((place : ℕ) (box : List ℕ) → whole place all box ≡ in_turn (look place) left box) → (start : Held) → LeftToLook look whole all left start start
+  left_all same start = record { looks = λ place. same place start.box; behind = refl; long = refl }
 
-  module _ {left : List A} {v : ℕ} {start rooms : List ℕ} (before : LeftToLook look whole all left v start rooms) where
+  module _ {left : List A} {start now : Held} (before : LeftToLook look whole all left start now) where
     -- where none is left the rooms are what the whole leaves
-    pub left-none : left ≡ [] → {R : Type 0} (died : ℕ → R) (lived : R) (place : ℕ) → AfterLook died lived (whole place all (take v start)) lived rooms (drop v start)
+    pub left-none : left ≡ [] → {R : Type 0} (died : ℕ → R) (lived : R) (place : ℕ) → AfterLook died lived (whole place all start.box) lived now start.rest
     unfolding in_turn
     left-none none died lived place =
-        subst (λ (l : Look). AfterLook died lived l lived rooms (drop v start)) (sym (before.looks place ∙ ap (λ (xs : List A). in_turn (look place) xs (take v rooms)) none))
-        (refl, sym (take-append-drop v rooms) ∙ ap (λ (rest : List ℕ). take v rooms ++ rest) before.others)
+        subst (λ (l : Look). AfterLook died lived l lived now start.rest) (sym (before.looks place ∙ ap (λ (xs : List A). in_turn (look place) xs now.box) none))
+        (refl, λ i. record { box = now.box; rest = before.behind i })
 
     module _ {x : A} where
       -- what a look at the last leaves, the whole leaves
-      pub left_last : left ≡ x ∷ [] → {r : Bool} {after : List ℕ} → Leaves look x v rooms r after → Leaves whole all v start r after
+      pub left_last : left ≡ x ∷ [] → {r : Bool} {after : Held} → Leaves look x now r after → Leaves whole all start r after
       left_last next {r} {after} found = record {
         by = λ place.
             subst₂ (λ (l : Look) (rest : List ℕ). AfterLook (λ _. false) true l r after rest)
-            (sym (before.looks place ∙ ap (λ (xs : List A). in_turn (look place) xs (take v rooms)) next ∙ in_turn_one (look place) x (take v rooms))) before.others (found.by place);
+            (sym (before.looks place ∙ ap (λ (xs : List A). in_turn (look place) xs now.box) next ∙ in_turn_one (look place) x now.box)) before.behind (found.by place);
       }
 
-      module _ {more : List A} (next : left ≡ x ∷ more) {r : Bool} {after : List ℕ} (found : Leaves look x v rooms r after) where
-        whole_here : (place : ℕ) → whole place all (take v start) ≡ in_turn (look place) (x ∷ more) (take v rooms)
-        whole_here place = before.looks place ∙ ap (λ (xs : List A). in_turn (look place) xs (take v rooms)) next
+      module _ {more : List A} (next : left ≡ x ∷ more) {r : Bool} {after : Held} (found : Leaves look x now r after) where
+        whole_here : (place : ℕ) → whole place all start.box ≡ in_turn (look place) (x ∷ more) now.box
+        whole_here place = before.looks place ∙ ap (λ (xs : List A). in_turn (look place) xs now.box) next
 
         -- where a look at the next is dead, the whole is
-        pub left-dead : r ≡ false → (place : ℕ) → (p : ℕ) × (look place x (take v rooms) ≡ dead p) × (whole place all (take v start) ≡ dead p)
+        pub left-dead : r ≡ false → (place : ℕ) → (p : ℕ) × (look place x now.box ≡ dead p) × (whole place all start.box ≡ dead p)
         unfolding in_turn
         left-dead f place =
-            let d = after_dead (λ _. false) true (look place x (take v rooms)) r after (drop v rooms) (found.by place) (λ t. true-not_false t f) in
+            let d = after_dead (λ _. false) true (look place x now.box) r after now.rest (found.by place) (λ t. true-not_false t f) in
             (d.0, d.1, whole_here place ∙ ap (λ (l : Look). if_alive l (λ p. dead p) λ b. in_turn (look place) more b) d.1)
 
         -- and its answer is false
-        pub left-dead-leaves : r ≡ false → (last : List ℕ) → Leaves whole all v start false last
-        left-dead-leaves f last = record { by = λ place. subst (λ (l : Look). AfterLook (λ _. false) true l false last (drop v start)) (sym (left-dead f place).2) refl }
+        pub left-dead-leaves : r ≡ false → (last : Held) → Leaves whole all start false last
+        left-dead-leaves f last = record { by = λ place. subst (λ (l : Look). AfterLook (λ _. false) true l false last start.rest) (sym (left-dead f place).2) refl }
 
         -- else those behind it are left, at the rooms that it leaves
-        pub left_then : ((place k : ℕ) → Keeps (λ box. k ≡ length box) (look place x)) → r ≡ true → LeftToLook look whole all more v start after
+        pub left_then : ((place k : ℕ) → Keeps (λ box. k ≡ length box) (look place x)) → r ≡ true → LeftToLook look whole all more start after
         left_then keeps t = record {
-          looks = λ place. let a = alive-here place in whole_here place ∙ in_turn_then (look place) x more (take v rooms) a.0 a.1 ∙ ap (in_turn (look place) more) (sym (kept place).0);
-          others = (kept 0).1 ∙ before.others;
+          looks = λ place.
+              let a = alive-here place in
+              whole_here place ∙ in_turn_then (look place) x more now.box a.0 a.1 ∙ ap (λ (held : Held). in_turn (look place) more held.box) (sym a.2);
+          behind = ap (λ (held : Held). held.rest) (alive-here 0).2 ∙ before.behind;
+          long = before.long ∙ keeps 0 (length now.box) now.box (alive-here 0).0 refl (alive-here 0).1 ∙ ap (λ (held : Held). length held.box) (sym (alive-here 0).2);
         }
           where
-            alive-here : (place : ℕ) → (box : List ℕ) × (look place x (take v rooms) ≡ alive box) × (after ≡ box ++ drop v rooms)
-            alive-here place = after-alive (λ _. false) true (look place x (take v rooms)) r after (drop v rooms) (found.by place) (λ p f. true-not_false t f)
-
-            kept : (place : ℕ) → (take v after ≡ (alive-here place).0) × (drop v after ≡ drop v rooms)
-            kept place =
-                let a = alive-here place in
-                let f = front-placed v a.0 rooms (sym (keeps place (length (take v rooms)) (take v rooms) a.0 refl a.1)) in
-                (ap (take v) a.2 ∙ f.0, ap (drop v) a.2 ∙ f.1)
+            alive-here : (place : ℕ) → (box : List ℕ) × (look place x now.box ≡ alive box) × (after ≡ with_box box now)
+            alive-here place = after-alive (λ _. false) true (look place x now.box) r after now.rest (found.by place) (λ p f. true-not_false t f)

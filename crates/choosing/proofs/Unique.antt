@@ -2,8 +2,10 @@
 use mathlib.Core.Path.{◌≡◌}
 use mathlib.Core.List.{List}
 use Prim.Native.Nat.{ℕ}
+use Rattle.std.specs.Prelude.{Option}
 use Rattle.sets.proofs.Unique.{one-result}
+use Rattle.rooms.specs.Held.{Held}
 use Rattle.choosing.specs.Promise.{Chooses}
 
-pub choose_unique : (input : List ℕ) (v : ℕ) (rooms : List ℕ) {r s : ℕ} → Chooses input v rooms r → Chooses input v rooms s → r ≡ s
-choose_unique input v rooms p q = one-result p q
+pub choose_unique : (input : List ℕ) (rooms : Held) {r s : Option ℕ} → Chooses input rooms r → Chooses input rooms s → r ≡ s
+choose_unique input rooms p q = one-result p q

@@ -1,8 +1,10 @@
 -- What the public function of `src/` promises. Its contract and the theorem that it allows one result cite this. Assumes nothing.
-use Rattle.std.specs.Prelude.{◌≡◌, List, ℕ, take}
+use Rattle.std.specs.Prelude.{◌≡◌, List, ℕ, Option, length}
 use Rattle.rules.specs.Sound.{fields_in}
 use Rattle.steps.specs.Search.{chosen}
+use Rattle.rooms.specs.Held.{Held}
+use Rattle.choosing.specs.FirstWide.{index_below}
 
--- `choose`: the lowest index that step 4 may split; v where there is none
-abbrev pub Chooses : List ℕ → ℕ → List ℕ → ℕ → Type 0
-Chooses input v rooms r = r ≡ chosen (fields_in input) (take v rooms)
+-- `choose`: the lowest index that step 4 may split; none where that is the number of rooms
+abbrev pub Chooses : List ℕ → Held → Option ℕ → Type 0
+Chooses input rooms r = r ≡ index_below (length rooms.box) (chosen (fields_in input) rooms.box)

@@ -1,5 +1,5 @@
 pub mod AtomsInTurn
-pub mod FrontRooms
+pub mod FirstFound
 pub mod PositionsInTurn
 pub mod ScanLaws
 pub mod SettledClauses

@@ -1,43 +1,52 @@
 -- Laws of the scan over a clause's atoms that a look is: what it has met of the atoms that it passed, and what the look leaves where the scan ends. Assumes nothing.
-use mathlib.Core.Path.{◌≡◌, refl, sym, ap, ap₂, ◌∙◌, subst₂}
-use mathlib.Core.Logic.{◌⊎◌, ⊎_elim}
-use mathlib.Core.Bool.{true, false, true≢false}
-use mathlib.Core.List.{List, [], ◌∷◌, ◌++◌, append-nil, append_assoc}
-use Prim.Native.Nat.{ℕ, zero, suc, ◌+◌, ◌-◌, ◌/◌, ◌≤◌, ◌<◌}
+use mathlib.Core.Path.{◌≡◌, refl, sym, ap, ◌∙◌, subst}
+use mathlib.Core.Bool.{Bool, true, false, true≢false}
+use mathlib.Core.List.{List, [], ◌∷◌}
+use Prim.Native.Nat.{ℕ, ◌-◌, ◌≤◌}
 use native.Mathlib.Decide.{ℕ_discrete, dec_le}
 use native.Mathlib.Omega.{arith}
-use lib.Dec.{not_T}
-use lib.ListN.{length, get_or, set, take, drop, get_or-eq_default}
+use lib.Dec.{T, not_T}
+use lib.ListN.{length, get_or-eq_default}
 use Rattle.sets.specs.Sets.{union, common, is_empty}
 use Rattle.sets.proofs.Sameness.{empty_test}
-use Rattle.sets.proofs.Unions.{union_empty, common-union, common_empty, empty-common, left_empty, right_empty}
+use Rattle.sets.proofs.Unions.{union_empty, empty-union, union_onto, common-union, common_empty, empty-common, left_empty}
+use Rattle.lists.proofs.TestLaws.{true_test}
 use Rattle.rules.specs.declared.field.Atom.{Atom}
-use Rattle.rules.specs.Reading.{atom_of, atoms_of}
+use Rattle.rules.specs.Each.{atoms_in}
 use Rattle.steps.specs.Boxes.{room_at, with_room}
 use Rattle.steps.specs.Shrinking.{dead, alive, united, is_live, cut, look_clause}
 use Rattle.steps.proofs.Looks.LiveLaws.{live-not_empty}
 use Rattle.steps.proofs.Looks.ClauseLaws.{LiveIn, ClauseLook, none_live, one_live, more_live, clause_look}
+use Rattle.rooms.specs.Held.{Held, with_box}
+use Rattle.rooms.specs.Looks.{Leaves}
+use Rattle.rooms.proofs.LookLaws.{leaves-dead, leaves-box, leaves_same}
 use Rattle.clauses.specs.Promise.{LooksAtoms}
-use Rattle.clauses.specs.Scans.{atoms_from, AtomsFrom, shared_in, Scanned, cut_to, Cuts}
-use Rattle.clauses.proofs.AtomsInTurn.{atoms_next, atom_fits}
-use Rattle.clauses.proofs.UnitedLaws.{united_elsewhere, united_one, united-append}
-use Rattle.clauses.proofs.FrontRooms.{meets_front, leaves-dead, leaves_same, leaves-set}
+use Rattle.clauses.specs.Scans.{shared_in, Scanned, MetOne, Another}
+use Rattle.clauses.proofs.UnitedLaws.{united-here, united_elsewhere}
 
 -- ---- what a position's room shares with its sets
 
--- of two lists of atoms it shares what it shares with the one and with the other
-pub shared-append : (box : List ℕ) (xs ys : List Atom) (q : ℕ) → shared_in box (xs ++ ys) q ≡ union (shared_in box xs q) (shared_in box ys q)
-shared-append box xs ys q = ap (common (room_at box q)) (united-append q xs ys) ∙ common-union (room_at box q) (united q xs) (united q ys)
+module _ (box : List ℕ) (a : Atom) (more : List Atom) where
+  -- an atom adds what its own position's room shares with its set
+  pub shared-here : shared_in box (a ∷ more) a.position ≡ union (common (room_at box a.position) a.set) (shared_in box more a.position)
+  shared-here = ap (common (room_at box a.position)) (united-here a more a.position refl) ∙ common-union (room_at box a.position) a.set (united a.position more)
 
-module _ (box : List ℕ) (a : Atom) where
-  -- by one atom its own position's room shares what it shares with the atom's set
-  pub shared-here : (q : ℕ) → a.position ≡ q → shared_in box (a ∷ []) q ≡ common (room_at box a.position) a.set
-  shared-here q e = ap₂ common (ap (room_at box) (sym e)) (united_one a q e)
+  -- and nothing at another position
+  pub shared_elsewhere : (q : ℕ) → (a.position ≡ q → ⊥) → shared_in box (a ∷ more) q ≡ shared_in box more q
+  shared_elsewhere q ne = ap (common (room_at box q)) (united_elsewhere a more q ne)
 
-  -- and another position's nothing
-  pub shared_elsewhere : (q : ℕ) → (a.position ≡ q → ⊥) → shared_in box (a ∷ []) q ≡ 0
-  unfolding united
-  shared_elsewhere q ne = ap (common (room_at box q)) (united_elsewhere a [] q ne) ∙ common_empty (room_at box q)
+  -- nothing at all where its set shares nothing with the room
+  pub shared_passed : common (room_at box a.position) a.set ≡ 0 → (q : ℕ) → shared_in box (a ∷ more) q ≡ shared_in box more q
+  shared_passed none q = go (ℕ_discrete a.position q)
+    where
+      go : Dec (a.position ≡ q) → shared_in box (a ∷ more) q ≡ shared_in box more q
+      go (yes e) = subst (λ (p : ℕ). shared_in box (a ∷ more) p ≡ shared_in box more p) e (shared-here ∙ ap (λ (m : ℕ). union m (shared_in box more a.position)) none ∙ empty-union (shared_in box more a.position))
+      go (no ne) = shared_elsewhere q ne
+
+-- no room shares anything with the sets of no atom
+pub shared_none : (box : List ℕ) (q : ℕ) → shared_in box [] q ≡ 0
+unfolding united
+shared_none box q = common_empty (room_at box q)
 
 -- a position whose room shares a value with its sets is live
 shared_live : (box : List ℕ) (atoms : List Atom) (q : ℕ) → 1 ≤ q → (shared_in box atoms q ≡ 0 → ⊥) → LiveIn atoms box q
@@ -50,193 +59,188 @@ shared_live box atoms q low shares = (low, there (dec_le q (length box)), not_T 
         let past : length box ≤ q - 1 = omega arith in
         absurd (shares (ap (λ (room : ℕ). common room (united q atoms)) (get_or-eq_default box 0 past) ∙ empty-common (united q atoms)))
 
--- ---- the scan
+-- ---- the test whether a room shares something with a set
 
--- at the start all are left, and nothing is met
-pub scan-starts : {all left : List Atom} (box : List ℕ) (live : ℕ) → left ≡ all → Scanned all left box live 0
-unfolding united
-scan-starts box live e = record { passed = []; parts = sym e; others = λ q ne. common_empty (room_at box q); here = sym (common_empty (room_at box (live + 1))) }
+module _ {m : ℕ} {b : Bool} (tested : b ≡ is_empty m) where
+  -- it says that the two share nothing
+  pub nothing_shared : b ≡ true → m ≡ 0
+  nothing_shared e = (empty_test m).0 (true_test (is_empty m) (sym tested ∙ e))
 
--- the same scan by other names for what it has met
-pub scan_as : {all left : List Atom} {box : List ℕ} {live kept live' kept' : ℕ} → Scanned all left box live kept → live' ≡ live → kept' ≡ kept → Scanned all left box live' kept'
-scan_as {all} {left} {box} scanned e f = subst₂ (λ (i m : ℕ). Scanned all left box i m) (sym e) (sym f) scanned
+  -- or that they share a value
+  pub something_shared : b ≡ false → m ≡ 0 → ⊥
+  something_shared e none = subst T (sym tested ∙ e) ((empty_test m).1 none)
 
-module _ {all left : List Atom} {box : List ℕ} {live kept : ℕ} (scanned : Scanned all left box live kept) where
-  abbrev passed : List Atom
-  passed = scanned.passed
+-- ---- the scan for the first live position
 
-  module _ {a : Atom} {more : List Atom} {shared : ℕ} (next : left ≡ a ∷ more) (meets : shared ≡ common (room_at box a.position) a.set) where
-    parts_next : all ≡ (passed ++ a ∷ []) ++ more
-    parts_next = scanned.parts ∙ ap (λ (bs : List Atom). passed ++ bs) next ∙ sym (append_assoc passed (a ∷ []) more)
+-- the atoms that are left are live where all are
+pub record NoneMet (box : List ℕ) (all left : List Atom) : Type 0 where
+  pub same : (q : ℕ) → shared_in box all q ≡ shared_in box left q
 
-    -- the atom adds nothing to what another position's room shares
-    unmoved : (q : ℕ) → (a.position ≡ q → ⊥) → shared_in box (passed ++ a ∷ []) q ≡ shared_in box passed q
-    unmoved q ne = shared-append box passed (a ∷ []) q ∙ ap (union (shared_in box passed q)) (shared_elsewhere box a q ne) ∙ union_empty (shared_in box passed q)
+module _ {box : List ℕ} {all left : List Atom} (none_met : NoneMet box all left) where
+  -- at the end none is
+  pub none_met-ends : left ≡ [] → (q : ℕ) → shared_in box all q ≡ 0
+  none_met-ends end q = none_met.same q ∙ ap (λ (atoms : List Atom). shared_in box atoms q) end ∙ shared_none box q
 
-    moved : shared_in box (passed ++ a ∷ []) a.position ≡ union (shared_in box passed a.position) shared
-    moved = shared-append box passed (a ∷ []) a.position ∙ ap (union (shared_in box passed a.position)) (shared-here box a a.position refl ∙ sym meets)
+  module _ {a : Atom} {more : List Atom} (next : left ≡ a ∷ more) {room shared : ℕ} (there : room ≡ room_at box a.position) (meets : shared ≡ common room a.set) where
+    first_shares : shared ≡ common (room_at box a.position) a.set
+    first_shares = meets ∙ ap (λ (m : ℕ). common m a.set) there
+
+    on : (q : ℕ) → shared_in box all q ≡ shared_in box (a ∷ more) q
+    on q = none_met.same q ∙ ap (λ (atoms : List Atom). shared_in box atoms q) next
 
     -- an atom whose set shares nothing with its room is passed over
-    pub scan_passes : shared ≡ 0 → Scanned all more box live kept
-    scan_passes none = record {
-      passed = passed ++ a ∷ [];
-      parts = parts_next;
-      others = λ q ne. same q ∙ scanned.others q ne;
-      here = scanned.here ∙ sym (same (live + 1));
+    pub none_met-passes : shared ≡ 0 → NoneMet box all more
+    none_met-passes none = record { same = λ q. on q ∙ shared_passed box a more (sym first_shares ∙ none) q }
+
+    -- the first one that does shows a live position
+    pub met_first : 1 ≤ a.position → (shared ≡ 0 → ⊥) → MetOne box all more a.position shared
+    met_first low some = record {
+      low = low;
+      live = some;
+      scanned = record {
+        others = λ q ne. on q ∙ shared_elsewhere box a more q (λ e. ne (sym e));
+        here = empty-union (shared_in box all a.position) ∙ on a.position ∙ shared-here box a more ∙ ap (λ (m : ℕ). union m (shared_in box more a.position)) (sym first_shares);
+      };
     }
-      where
-        go : (q : ℕ) → Dec (a.position ≡ q) → shared_in box (passed ++ a ∷ []) q ≡ shared_in box passed q
-        go q (yes e) =
-            shared-append box passed (a ∷ []) q ∙ ap (union (shared_in box passed q)) (shared-here box a q e ∙ sym meets ∙ none) ∙ union_empty (shared_in box passed q)
-        go q (no ne) = unmoved q ne
 
-        same : (q : ℕ) → shared_in box (passed ++ a ∷ []) q ≡ shared_in box passed q
-        same q = go q (ℕ_discrete a.position q)
+-- ---- the scan of the atoms behind
 
-    -- the first one that does, and one of the same position, adds to what is kept
-    pub scan-meets : 1 ≤ a.position → (kept ≡ 0) ⊎ (a.position - 1 ≡ live) → Scanned all more box (a.position - 1) (union kept shared)
-    scan-meets low alone = record {
-      passed = passed ++ a ∷ [];
-      parts = parts_next;
-      others = λ q ne. unmoved q (λ e. ne (sym (e⁻ e))) ∙ quiet q (λ e. ne (e ∙ up)) (ℕ_discrete q (live + 1));
-      here = ap (λ (m : ℕ). union m shared) (known (ℕ_discrete a.position (live + 1))) ∙ sym moved ∙ ap (shared_in box (passed ++ a ∷ [])) up;
+-- at the start all are left
+pub scan-starts : (box : List ℕ) (all : List Atom) (position kept : ℕ) → Scanned box all all position kept kept
+scan-starts box all position kept = record { others = λ q ne. refl; here = refl }
+
+module _ {box : List ℕ} {all left : List Atom} {position before now : ℕ} (scanned : Scanned box all left position before now) where
+  -- the same scan by another name for what is kept
+  pub scan_as : {kept : ℕ} → kept ≡ now → Scanned box all left position before kept
+  scan_as e = subst (λ (m : ℕ). Scanned box all left position before m) (sym e) scanned
+
+  -- at the end none is left
+  pub scan_ends : left ≡ [] → Scanned box all [] position before now
+  scan_ends end = subst (λ (atoms : List Atom). Scanned box all atoms position before now) end scanned
+
+  module _ {a : Atom} {more : List Atom} (next : left ≡ a ∷ more) {room shared : ℕ} (there : room ≡ room_at box a.position) (meets : shared ≡ common room a.set) where
+    shares : shared ≡ common (room_at box a.position) a.set
+    shares = meets ∙ ap (λ (m : ℕ). common m a.set) there
+
+    at-next : Scanned box all (a ∷ more) position before now
+    at-next = subst (λ (atoms : List Atom). Scanned box all atoms position before now) next scanned
+
+    -- an atom whose set shares nothing with its room is passed over
+    pub scan_passes : shared ≡ 0 → Scanned box all more position before now
+    scan_passes none =
+        let passed = shared_passed box a more (sym shares ∙ none) in
+        record { others = λ q ne. at-next.others q ne ∙ passed q; here = at-next.here ∙ ap (union now) (passed position) }
+
+    -- one of the same position adds to what is kept
+    pub scan-meets : a.position ≡ position → Scanned box all more position before (union now shared)
+    scan-meets same = record {
+      others = λ q ne. at-next.others q ne ∙ shared_elsewhere box a more q (λ e. ne (sym e ∙ same));
+      here =
+          at-next.here
+          ∙ subst (λ (p : ℕ). union now (shared_in box (a ∷ more) p) ≡ union (union now shared) (shared_in box more p)) same
+          (ap (union now) (shared-here box a more ∙ ap (λ (m : ℕ). union m (shared_in box more a.position)) (sym shares)) ∙ union_onto now shared (shared_in box more a.position));
     }
-      where
-        up : a.position ≡ a.position - 1 + 1
-        up = omega arith
 
-        e⁻ : {q : ℕ} → a.position ≡ q → a.position - 1 + 1 ≡ q
-        e⁻ e = sym up ∙ e
+    -- one of another position shows that live
+    pub scan_another : 1 ≤ a.position → (a.position ≡ position → ⊥) → (shared ≡ 0 → ⊥) → Another box all position
+    scan_another low other some = record {
+      other = a.position;
+      low = low;
+      differs = other;
+      live = λ none. some (shares ∙ left_empty _ _ (sym (at-next.others a.position other ∙ shared-here box a more) ∙ none));
+    }
 
-        -- another position's room shares nothing with those passed
-        quiet : (q : ℕ) → (q ≡ a.position → ⊥) → Dec (q ≡ live + 1) → shared_in box passed q ≡ 0
-        quiet q ne (no off) = scanned.others q off
-        quiet q ne (yes on) = ⊎_elim (λ none. ap (shared_in box passed) on ∙ sym scanned.here ∙ none) (λ same. absurd (ne (omega arith))) alone
+-- ---- the scan of all atoms in one, from the first live position on
 
-        -- what is kept is what the atom's own position's room shares with them
-        known : Dec (a.position ≡ live + 1) → kept ≡ shared_in box passed a.position
-        known (yes on) = scanned.here ∙ ap (shared_in box passed) (sym on)
-        known (no off) = ⊎_elim (λ none. none ∙ sym (scanned.others a.position off)) (λ same. absurd (off (omega arith))) alone
+module _ {box : List ℕ} {all left : List Atom} {position kept : ℕ} (one : MetOne box all left position kept) {a : Atom} {more : List Atom} (next : left ≡ a ∷ more)
+    {room shared : ℕ} (there : room ≡ room_at box a.position) (meets : shared ≡ common room a.set) where
+  -- an atom whose set shares nothing with its room is passed over
+  pub met_passes : shared ≡ 0 → MetOne box all more position kept
+  met_passes none = record { low = one.low; live = one.live; scanned = scan_passes one.scanned next there meets none }
 
-    -- one of another position makes several, and nothing changes
-    pub scan_several : (place : ℕ) → 1 ≤ a.position → (kept ≡ 0 → ⊥) → (a.position - 1 ≡ live → ⊥) → (shared ≡ 0 → ⊥) → look_clause place all box ≡ alive box
-    scan_several place low has other shares = go (clause_look place all box)
-      where
-        whole : (q : ℕ) → shared_in box all q ≡ union (union (shared_in box passed q) (shared_in box (a ∷ []) q)) (shared_in box more q)
-        whole q =
-            ap (λ (bs : List Atom). shared_in box bs q) parts_next ∙ shared-append box (passed ++ a ∷ []) more q
-            ∙ ap (λ (m : ℕ). union m (shared_in box more q)) (shared-append box passed (a ∷ []) q)
+  -- one of the same position adds to what is kept
+  pub met_again : a.position ≡ position → MetOne box all more position (union kept shared)
+  met_again same = record { low = one.low; live = λ none. one.live (left_empty kept shared none); scanned = scan-meets one.scanned next there meets same }
 
-        first : LiveIn all box (live + 1)
-        first =
-            shared_live box all (live + 1) (omega arith)
-            (λ e. has (scanned.here ∙ left_empty (shared_in box passed (live + 1)) _ (left_empty _ _ (sym (whole (live + 1)) ∙ e))))
+-- ---- what a look at the clause finds
 
-        second : LiveIn all box a.position
-        second =
-            shared_live box all a.position low
-            (λ e. shares (meets ∙ sym (shared-here box a a.position refl) ∙ right_empty (shared_in box passed a.position) _ (left_empty _ _ (sym (whole a.position) ∙ e))))
+-- where no position is live it is dead
+pub scan-dead : (place : ℕ) (all : List Atom) (box : List ℕ) → ((q : ℕ) → shared_in box all q ≡ 0) → look_clause place all box ≡ dead place
+scan-dead place all box none = go (clause_look place all box)
+  where
+    never : (q : ℕ) → LiveIn all box q → ⊥
+    never q there = live-not_empty all q (room_at box q) there.2 (none q)
 
-        go : ClauseLook place all box → look_clause place all box ≡ alive box
-        go (none_live dull e) = absurd (dull a.position second)
-        go (one_live q there only e) = let one = only (live + 1) first in let two = only a.position second in absurd (other (omega arith))
-        go (more_live q r there also l e) = e
+    go : ClauseLook place all box → look_clause place all box ≡ dead place
+    go (none_live dull e) = e
+    go (one_live q there only e) = absurd (never q there)
+    go (more_live q r there also l e) = absurd (never q there)
 
-  -- what is kept is a part of a room of the box
-  pub scan-there : (kept ≡ 0 → ⊥) → live < length box
-  scan-there has = let live_in = shared_live box passed (live + 1) (omega arith) (λ e. has (scanned.here ∙ e)) in omega (arith, live_in.1)
+module _ {box : List ℕ} {all left : List Atom} {p kept : ℕ} (one : MetOne box all left p kept) where
+  whole : shared_in box all p ≡ union kept (shared_in box left p)
+  whole = sym (empty-union (shared_in box all p)) ∙ one.scanned.here
 
-  module _ (end : left ≡ []) where
-    all-passed : all ≡ passed
-    all-passed = scanned.parts ∙ ap (λ (bs : List Atom). passed ++ bs) end ∙ append-nil passed
+  live_one : LiveIn all box p
+  live_one = shared_live box all p one.low (λ none. one.live (left_empty _ _ (sym whole ∙ none)))
 
-    -- only the position above the index can be live
-    only_one : (q : ℕ) → LiveIn all box q → q ≡ live + 1
-    only_one q there = go (ℕ_discrete q (live + 1))
-      where
-        go : Dec (q ≡ live + 1) → q ≡ live + 1
-        go (yes e) = e
-        go (no ne) = absurd (live-not_empty all q (room_at box q) there.2 (ap (λ (bs : List Atom). shared_in box bs q) all-passed ∙ scanned.others q ne))
+  -- the live position is one of the box
+  pub met-there : (1 ≤ p) × (p ≤ length box)
+  met-there = (one.low, live_one.1)
 
-    kept_all : kept ≡ shared_in box all (live + 1)
-    kept_all = scanned.here ∙ ap (λ (bs : List Atom). shared_in box bs (live + 1)) (sym all-passed)
+  -- where another is live too nothing changes
+  pub scan_several : (place : ℕ) → Another box left p → look_clause place all box ≡ alive box
+  scan_several place another = go (clause_look place all box)
+    where
+      second : LiveIn all box another.other
+      second = shared_live box all another.other another.low (λ none. another.live (sym (one.scanned.others another.other another.differs) ∙ none))
 
-    -- at the end, where nothing was met the clause is dead
-    pub scan-dead : (place : ℕ) → kept ≡ 0 → look_clause place all box ≡ dead place
-    scan-dead place none = go (clause_look place all box)
-      where
-        never : (q : ℕ) → LiveIn all box q → ⊥
-        never q there = live-not_empty all q (room_at box q) there.2 (ap (shared_in box all) (only_one q there) ∙ sym kept_all ∙ none)
+      go : ClauseLook place all box → look_clause place all box ≡ alive box
+      go (none_live dull e) = absurd (dull p live_one)
+      go (one_live q there only e) = absurd (another.differs (only another.other second ∙ sym (only p live_one)))
+      go (more_live q r there also l e) = e
 
-        go : ClauseLook place all box → look_clause place all box ≡ dead place
-        go (none_live dull e) = e
-        go (one_live q there only e) = absurd (never q there)
-        go (more_live q r there also l e) = absurd (never q there)
+  -- else its room is cut down to what was kept
+  pub scan_cuts : (place : ℕ) {now : ℕ} → Scanned box left [] p kept now → look_clause place all box ≡ alive (with_room box p now)
+  unfolding cut
+  scan_cuts place {now} scanned = go (clause_look place all box)
+    where
+      kept_all : shared_in box all p ≡ now
+      kept_all = whole ∙ scanned.here ∙ ap (union now) (shared_none box p) ∙ union_empty now
 
-    -- else the one room is cut down to what was kept
-    pub scan_cuts : (place : ℕ) → (kept ≡ 0 → ⊥) → look_clause place all box ≡ alive (set box live kept)
-    unfolding cut with_room
-    scan_cuts place has = go (clause_look place all box)
-      where
-        back : live + 1 - 1 ≡ live
-        back = omega arith
+      only_one : (q : ℕ) → LiveIn all box q → q ≡ p
+      only_one q there = by (ℕ_discrete q p)
+        where
+          by : Dec (q ≡ p) → q ≡ p
+          by (yes e) = e
+          by (no ne) = absurd (live-not_empty all q (room_at box q) there.2 (one.scanned.others q ne ∙ scanned.others q ne ∙ shared_none box q))
 
-        go : ClauseLook place all box → look_clause place all box ≡ alive (set box live kept)
-        go (none_live dull e) = absurd (dull (live + 1) (shared_live box all (live + 1) (omega arith) (λ f. has (kept_all ∙ f))))
-        go (one_live q there only e) =
-            e ∙ ap (λ (p : ℕ). alive (cut all p box)) (only_one q there)
-            ∙ ap₂ (λ (i m : ℕ). alive (set box i m)) back (sym kept_all)
-        go (more_live q r there also l e) = let one = only_one q there in let two = only_one r also in absurd (omega arith)
+      go : ClauseLook place all box → look_clause place all box ≡ alive (with_room box p now)
+      go (none_live dull e) = absurd (dull p live_one)
+      go (one_live q there only e) = e ∙ ap (λ (r : ℕ). alive (cut all r box)) (only_one q there) ∙ ap (λ (m : ℕ). alive (with_room box p m)) kept_all
+      go (more_live q r there also l e) = let first = only_one q there in let second = only_one r also in absurd (omega arith)
 
--- ---- what a cut leaves, and what a look at the clause of a content leaves
+-- ---- what a look at the clause of a content leaves
 
--- where nothing is kept, the box as it is
-pub cut-none : (m i : ℕ) (box : List ℕ) → m ≡ 0 → cut_to m i box ≡ box
-unfolding cut_to
-cut-none m i box e = ap (λ (k : ℕ). cut_to k i box) e
+module _ {before : Held} {content : List ℕ} {all : List Atom} (is : all ≡ atoms_in content) where
+  -- where no position is live
+  pub looks-dead : ((q : ℕ) → shared_in before.box all q ≡ 0) → LooksAtoms before content false before
+  looks-dead none = record {
+    leaves = subst (λ (atoms : List Atom). Leaves look_clause atoms before false before) is (leaves-dead look_clause all before (λ place. scan-dead place all before.box none));
+    kept = λ f. refl;
+  }
 
--- else the box with another room
-pub cut_some : (m i : ℕ) (box : List ℕ) → (m ≡ 0 → ⊥) → cut_to m i box ≡ set box i m
-unfolding cut_to
-cut_some zero i box ne = absurd (ne refl)
-cut_some (suc m) i box ne = refl
-
-module _ (content : List ℕ) (len v : ℕ) (rooms : List ℕ) where
-  -- where the scan finds it dead
-  pub looks-dead : ((place : ℕ) → look_clause place (atoms_of (len / 5) content) (take v rooms) ≡ dead place) → LooksAtoms rooms content len v false rooms
-  looks-dead e = record { leaves = leaves-dead look_clause (atoms_of (len / 5) content) v rooms e; kept = λ f. refl }
-
-  module _ (live : ℕ) {kept : ℕ} (cuts : Cuts content len v rooms live kept) where
-    -- where it keeps nothing, as several are live
-    pub looks_same : kept ≡ 0 → LooksAtoms rooms content len v true rooms
-    looks_same none = record {
-      leaves = leaves_same look_clause (atoms_of (len / 5) content) v rooms (λ place. cuts place ∙ ap alive (cut-none kept live (take v rooms) none));
+  module _ {left : List Atom} {position kept : ℕ} (one : MetOne before.box all left position kept) where
+    -- where another is live beside the one
+    pub looks_same : Another before.box left position → LooksAtoms before content true before
+    looks_same another = record {
+      leaves = subst (λ (atoms : List Atom). Leaves look_clause atoms before true before) is (leaves_same look_clause all before (λ place. scan_several one place another));
       kept = λ f. refl;
     }
 
-    -- where it keeps a part of one room
-    pub looks-set : (kept ≡ 0 → ⊥) → live < length (take v rooms) → LooksAtoms rooms content len v true (set rooms live kept)
-    looks-set has there = record {
-      leaves = leaves-set look_clause (atoms_of (len / 5) content) v rooms live kept there (λ place. cuts place ∙ ap alive (cut_some kept live (take v rooms) has));
+    -- where none is
+    pub looks_cut : {now : ℕ} {after : Held} → Scanned before.box left [] position kept now → after ≡ with_box (with_room before.box position now) before
+        → LooksAtoms before content true after
+    looks_cut {now} {after} scanned e = record {
+      leaves = subst (λ (atoms : List Atom). Leaves look_clause atoms before true after) is (leaves-box look_clause all before (λ place. scan_cuts one place scanned) e);
       kept = λ f. absurd (true≢false f);
     }
-
--- ---- a turn of the scan over the atoms of a content, at the first v rooms of an array
-
-module _ {v len i : ℕ} {content : List ℕ} (from : AtomsFrom v len i content) (there : i < len) {a : Atom} (here : a ≡ atom_of (drop i content)) (rooms : List ℕ)
-    {shared : ℕ} (meets : shared ≡ common (get_or rooms (a.position - 1) 0) a.set) {live kept : ℕ}
-    (scanned : Scanned (atoms_of (len / 5) content) (atoms_from len i content) (take v rooms) live kept) where
-  meets_room : shared ≡ common (room_at (take v rooms) a.position) a.set
-  meets_room = let fit = atom_fits from there here in meets ∙ meets_front v a.position a.set rooms fit.0 fit.1
-
-  -- an atom whose set shares nothing with its room is passed over
-  pub turn_passes : shared ≡ 0 → Scanned (atoms_of (len / 5) content) (atoms_from len (i + 5) content) (take v rooms) live kept
-  turn_passes none = scan_passes scanned (atoms_next from there here) meets_room none
-
-  -- the first one that does, and one of the same position, adds to what is kept
-  pub turn-meets : (kept ≡ 0) ⊎ (a.position - 1 ≡ live) → Scanned (atoms_of (len / 5) content) (atoms_from len (i + 5) content) (take v rooms) (a.position - 1) (union kept shared)
-  turn-meets alone = scan-meets scanned (atoms_next from there here) meets_room (atom_fits from there here).0 alone
-
-  -- one of another position makes several, and nothing changes
-  pub turn_several : (place : ℕ) → (kept ≡ 0 → ⊥) → (a.position - 1 ≡ live → ⊥) → (shared ≡ 0 → ⊥) → look_clause place (atoms_of (len / 5) content) (take v rooms) ≡ alive (take v rooms)
-  turn_several place has other shares = scan_several scanned (atoms_next from there here) meets_room place (atom_fits from there here).0 has other shares

@@ -1,5 +1,5 @@
 -- Laws of the union of a position's sets in a clause: by an atom more, and of two lists of atoms. Assumes nothing.
-use mathlib.Core.Path.{◌≡◌, ◌∙◌}
+use mathlib.Core.Path.{◌≡◌, refl, ◌∙◌}
 use mathlib.Core.Logic.{⊎_map}
 use mathlib.Core.List.{List, [], ◌∷◌, ◌++◌}
 use Prim.Native.Nat.{ℕ}
@@ -23,6 +23,11 @@ module _ (a : Atom) (more : List Atom) where
   pub united_elsewhere : (p : ℕ) → (a.position ≡ p → ⊥) → united p (a ∷ more) ≡ united p more
   unfolding united unite_if
   united_elsewhere p ne = rw (ne_eqb a.position p ne)
+
+-- no atom has no set
+pub united_none : (p : ℕ) → united p [] ≡ 0
+unfolding united
+united_none p = refl
 
 -- the union of one atom's sets is its set
 pub united_one : (a : Atom) (p : ℕ) → a.position ≡ p → united p (a ∷ []) ≡ a.set

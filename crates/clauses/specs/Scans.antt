@@ -1,46 +1,40 @@
--- What the scan over a clause's atoms that a look is has met, and what it cuts. Assumes nothing.
-use Rattle.std.specs.Prelude.{ℕ, zero, suc, ◌+◌, ◌-◌, ◌*◌, ◌/◌, ◌≤◌, ◌≡◌, take, drop, set}
-use mathlib.Core.List.{List, ◌++◌, Memᴰ}
-use Rattle.sets.specs.Sets.{common}
+-- What the scan over a clause's atoms that a look is has met. Assumes nothing.
+use Rattle.std.specs.Prelude.{ℕ, ◌≤◌, ◌≡◌, List, [], Option, Some, None, length}
+use Rattle.sets.specs.Sets.{common, union}
 use Rattle.rules.specs.declared.field.Atom.{Atom}
-use Rattle.rules.specs.Reading.{atoms_of}
 use Rattle.steps.specs.Boxes.{room_at}
-use Rattle.steps.specs.Shrinking.{alive, united, look_clause}
-use Rattle.clauses.specs.declared.look.Met.{Met}
+use Rattle.steps.specs.Shrinking.{united}
 use Rattle.rules.specs.Contents.{AtomsFit}
-
--- the atoms from i on, of a clause of so many bytes
-abbrev pub atoms_from : ℕ → ℕ → List ℕ → List Atom
-atoms_from len i content = atoms_of ((len - i) / 5) (drop i content)
-
--- they are whole, each is on a position from 1 to v, and all are atoms of the clause
-pub record AtomsFrom (v len i : ℕ) (content : List ℕ) : Type 0 where
-  pub whole : i + (len - i) / 5 * 5 ≡ len
-  pub fit : AtomsFit v (atoms_from len i content)
-  pub among : (a : Atom) → Memᴰ a (atoms_from len i content) → Memᴰ a (atoms_of (len / 5) content)
+use Rattle.clauses.specs.declared.look.Met.{Met}
 
 -- what the room of a position shares with its sets among these atoms
 abbrev pub shared_in : List ℕ → List Atom → ℕ → ℕ
 shared_in box atoms q = common (room_at box q) (united q atoms)
 
--- Of all the atoms of a clause these are left: in those passed no position is live but the one above an index, whose room shares this with its sets there.
-pub record Scanned (all left : List Atom) (box : List ℕ) (live kept : ℕ) : Type 0 where
-  pub passed : List Atom
-  pub parts : all ≡ passed ++ left
-  pub others : (q : ℕ) → (q ≡ live + 1 → ⊥) → shared_in box passed q ≡ 0
-  pub here : kept ≡ shared_in box passed (live + 1)
+-- Of all these atoms some are left: in those passed no position is live but one, of whose room this was kept before and this is kept now.
+pub record Scanned (box : List ℕ) (all left : List Atom) (position before now : ℕ) : Type 0 where
+  pub others : (q : ℕ) → (q ≡ position → ⊥) → shared_in box all q ≡ shared_in box left q
+  pub here : union before (shared_in box all position) ≡ union now (shared_in box left position)
 
--- the scan for the first live position: the atoms that are left are those from the next on, and where nothing is kept there is none
-pub record FirstMet (v len : ℕ) (content box : List ℕ) (met : Met) : Type 0 where
-  pub from : AtomsFrom v len met.next content
-  pub scanned : Scanned (atoms_of (len / 5) content) (atoms_from len met.next content) box met.live met.kept
-  pub through : met.kept ≡ 0 → len ≤ met.next
+-- of all these atoms some are left: in those passed this position is live and no other, and its room shares this with its sets there
+pub record MetOne (box : List ℕ) (all left : List Atom) (position kept : ℕ) : Type 0 where
+  pub low : 1 ≤ position
+  pub live : kept ≡ 0 → ⊥
+  pub scanned : Scanned box all left position 0 kept
 
--- the box with the room at an index cut down to a set; as it is where the set is empty
-unfoldable pub cut_to : ℕ → ℕ → List ℕ → List ℕ
-cut_to zero i box = box
-cut_to (suc m) i box = set box i (suc m)
+-- the scan for the first live position: what it has met, and that the atoms that are left fit too; where it meets none, none is live
+abbrev pub FirstMet : List ℕ → List Atom → Option Met → List Atom → Type 0
+FirstMet box all (Some met) left = MetOne box all left met.position met.kept × AtomsFit (length box) left
+FirstMet box all None left = (q : ℕ) → shared_in box all q ≡ 0
 
--- a look at the clause of these bytes cuts the room at an index down to a set; it changes nothing where the set is empty
-abbrev pub Cuts : List ℕ → ℕ → ℕ → List ℕ → ℕ → ℕ → Type 0
-Cuts content len v rooms i m = (place : ℕ) → look_clause place (atoms_of (len / 5) content) (take v rooms) ≡ alive (cut_to m i (take v rooms))
+-- another position than this one is live by these atoms
+pub record Another (box : List ℕ) (atoms : List Atom) (position : ℕ) : Type 0 where
+  pub other : ℕ
+  pub low : 1 ≤ other
+  pub differs : other ≡ position → ⊥
+  pub live : shared_in box atoms other ≡ 0 → ⊥
+
+-- the scan of the atoms behind: another position is live, or none is, and this is what the room of the one shares with all of its sets
+abbrev pub OnlyMet : List ℕ → List Atom → Met → Option ℕ → Type 0
+OnlyMet box left met (Some kept) = Scanned box left [] met.position met.kept kept
+OnlyMet box left met None = Another box left met.position

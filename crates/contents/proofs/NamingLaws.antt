@@ -6,18 +6,17 @@ use mathlib.Core.Logic.{inl, inr, ⊎_elim}
 use Prim.Native.Nat.{ℕ, ◌+◌, ◌-◌, ◌≤◌, ◌<◌}
 use native.Mathlib.Omega.{arith}
 use lib.Dec.{eqb}
-use lib.ListN.{length, get_or, take, drop}
+use lib.ListN.{length, get_or, drop}
+use Rattle.std.proofs.lemmas.List.{drop_all}
+use Rattle.lists.proofs.TakeDrop.{drop_next}
 use Rattle.lists.proofs.ListLaws.{every_map}
 use Rattle.lists.proofs.TestLaws.{test_same, either_holds, eq_holds}
 use Rattle.sets.specs.Marks.{is_marked, with_mark}
 use Rattle.sets.proofs.MarkLaws.{none_marked, marked_was, marked_now}
-use Rattle.rules.specs.Contents.{PositionsFit, Positions}
-use Rattle.rules.specs.declared.field.Tag.TheVariants.{AtMost}
-use Rattle.rules.specs.Reading.{set_at, rule_of, fault_if, or_else, set_fault, positions_fault, named, named_twice, twice_fault, rule_fault}
+use Rattle.rules.specs.Contents.{PositionsFit}
+use Rattle.rules.specs.Reading.{fault_if, positions_fault, named, named_twice, twice_fault}
 use Rattle.rules.specs.Writing.{PositionFits}
-use Rattle.rules.proofs.Reading.ContentLaws.{positions_on}
 use Rattle.rules.proofs.Reading.FaultlessLaws.{positions_fault-none}
-use Rattle.contents.proofs.FaultLaws.{fault_of_three}
 
 -- whether one of the positions is marked
 any_marked : ℕ → List ℕ → Bool
@@ -79,74 +78,49 @@ twice-by_marks ps fit = twice-from 0 ps fit ∙ ap (λ (b : Bool). b || named_tw
 -- ---- the search in turn
 
 -- the search has come to `at`, with marks on the positions before it: those from there on decide
-pub record Naming (bytes : List ℕ) (count seen at : ℕ) : Type 0 where
-  pub within : at ≤ count
-  pub fit : PositionsFit 64 (take (count - at) (drop at bytes))
-  pub fault : twice_fault (take count bytes) ≡ fault_if (twice_from seen (take (count - at) (drop at bytes))) 36 (λ _. 0)
+pub record Naming (ps : List ℕ) (seen at : ℕ) : Type 0 where
+  pub fit : PositionsFit 64 (drop at ps)
+  pub fault : twice_fault ps ≡ fault_if (twice_from seen (drop at ps)) 36 (λ _. 0)
 
 -- at first none is marked, and all decide
-pub naming-starts : {bytes : List ℕ} {count : ℕ} → Positions 64 count bytes → Naming bytes count 0 0
+pub naming-starts : (ps : List ℕ) {seen : ℕ} → PositionsFit 64 ps → seen ≡ 0 → Naming ps seen 0
 unfolding twice_fault
-naming-starts {bytes} {count} positions =
-    let whole : count ≡ count - 0 = omega arith in
-    record {
-      within = omega arith;
-      fit = subst (λ (k : ℕ). PositionsFit 64 (take k bytes)) whole positions.fit;
-      fault = ap (λ (b : Bool). fault_if b 36 (λ _. 0)) (sym (twice-by_marks (take count bytes) positions.fit) ∙ ap (λ (k : ℕ). twice_from 0 (take k bytes)) whole);
-    }
+naming-starts ps fit none = record { fit = fit; fault = ap (λ (b : Bool). fault_if b 36 (λ _. 0)) (sym (twice-by_marks ps fit) ∙ ap (λ (marks : ℕ). twice_from marks ps) (sym none)) }
 
 -- at the end none was named twice
-pub naming_ends : {bytes : List ℕ} {count seen at : ℕ} → Naming bytes count seen at → count ≤ at → twice_fault (take count bytes) ≡ 0
+pub naming_ends : {ps : List ℕ} {seen at : ℕ} → Naming ps seen at → length ps ≤ at → twice_fault ps ≡ 0
 unfolding twice_from
-naming_ends {bytes} {count} {seen} {at} here past =
-    let none : count - at ≡ 0 = omega arith in
-    here.fault ∙ ap (λ (k : ℕ). fault_if (twice_from seen (take k (drop at bytes))) 36 (λ _. 0)) none
+naming_ends {ps} {seen} {at} here past = here.fault ∙ ap (λ (qs : List ℕ). fault_if (twice_from seen qs) 36 (λ _. 0)) (drop_all at ps past)
 
-module _ {bytes : List ℕ} {count seen at : ℕ} (here : Naming bytes count seen at) (more : at < count) (there : count ≤ length bytes) where
-  rest_fits : PositionFits 64 (get_or bytes at 0) × PositionsFit 64 (take (count - (at + 1)) (drop (at + 1) bytes))
-  rest_fits = subst (PositionsFit 64) (positions_on count at bytes more there) here.fit
+module _ {ps : List ℕ} {seen at : ℕ} (here : Naming ps seen at) (more : at < length ps) where
+  rest_fits : PositionFits 64 (get_or ps at 0) × PositionsFit 64 (drop (at + 1) ps)
+  rest_fits = subst (PositionsFit 64) (drop_next ps at more) here.fit
 
   -- the position there is 1 to 64
-  pub naming_fits : PositionFits 64 (get_or bytes at 0)
+  pub naming_fits : PositionFits 64 (get_or ps at 0)
   naming_fits = rest_fits.0
 
   -- the fault of it and of those behind it, by whether it is marked
   abbrev fault_by : Bool → ℕ
-  fault_by marked = fault_if (marked || twice_from (with_mark (get_or bytes at 0 - 1) seen) (take (count - (at + 1)) (drop (at + 1) bytes))) 36 (λ _. 0)
+  fault_by marked = fault_if (marked || twice_from (with_mark (get_or ps at 0 - 1) seen) (drop (at + 1) ps)) 36 (λ _. 0)
 
-  fault-here : twice_fault (take count bytes) ≡ fault_by (is_marked (get_or bytes at 0 - 1) seen)
+  fault-here : twice_fault ps ≡ fault_by (is_marked (get_or ps at 0 - 1) seen)
   unfolding twice_from
-  fault-here = here.fault ∙ ap (λ (ps : List ℕ). fault_if (twice_from seen ps) 36 (λ _. 0)) (positions_on count at bytes more there)
+  fault-here = here.fault ∙ ap (λ (qs : List ℕ). fault_if (twice_from seen qs) 36 (λ _. 0)) (drop_next ps at more)
 
   -- where it is marked, it is named twice
-  pub naming-found : is_marked (get_or bytes at 0 - 1) seen ≡ true → twice_fault (take count bytes) ≡ 36
+  pub naming-found : is_marked (get_or ps at 0 - 1) seen ≡ true → twice_fault ps ≡ 36
   naming-found marked = fault-here ∙ ap fault_by marked
 
   -- where it is not, the search goes on with a mark on it
-  pub naming_passes : {seen' : ℕ} → is_marked (get_or bytes at 0 - 1) seen ≡ false → seen' ≡ with_mark (get_or bytes at 0 - 1) seen → Naming bytes count seen' (at + 1)
+  pub naming_passes : {seen' : ℕ} → is_marked (get_or ps at 0 - 1) seen ≡ false → seen' ≡ with_mark (get_or ps at 0 - 1) seen → Naming ps seen' (at + 1)
   naming_passes unmarked more-marks = record {
-    within = omega arith;
     fit = rest_fits.1;
-    fault = fault-here ∙ ap fault_by unmarked ∙ ap (λ (marks : ℕ). fault_if (twice_from marks (take (count - (at + 1)) (drop (at + 1) bytes))) 36 (λ _. 0)) (sym more-marks);
+    fault = fault-here ∙ ap fault_by unmarked ∙ ap (λ (marks : ℕ). fault_if (twice_from marks (drop (at + 1) ps)) 36 (λ _. 0)) (sym more-marks);
   }
 
 -- ---- positions without a fault
 
 -- they are 1 to 64, where v is at most 64
-pub positions-there : (v count : ℕ) (bytes : List ℕ) → v ≤ 64 → count ≤ length bytes → positions_fault v (take count bytes) ≡ 0 → Positions 64 count bytes
-positions-there v count bytes few there none = record {
-  there = there;
-  few = omega arith;
-  fit = every_map (PositionFits v) (PositionFits 64) (take count bytes) (λ p fits. (fits.0, omega arith)) ((positions_fault-none v (take count bytes)).0 none);
-}
-
--- ---- the content of an at-most field
-
--- its fault is the first of its set and its positions, else that of a position named twice
-pub at_most-in_turn : (v n len : ℕ) (content : List ℕ) {fault : ℕ}
-    → fault ≡ or_else (set_fault n (set_at content 1)) (positions_fault v (take (len - 5) (drop 5 content)))
-    → rule_fault v n (rule_of AtMost len content) ≡ or_else fault (twice_fault (take (len - 5) (drop 5 content)))
-unfolding rule_of rule_fault
-at_most-in_turn v n len content is =
-    let ps = take (len - 5) (drop 5 content) in
-    fault_of_three (set_fault n (set_at content 1)) (positions_fault v ps) (twice_fault ps) ∙ ap (λ (f : ℕ). or_else f (twice_fault ps)) (sym is)
+pub positions-there : (v : ℕ) (ps : List ℕ) → v ≤ 64 → positions_fault v ps ≡ 0 → PositionsFit 64 ps
+positions-there v ps few none = every_map (PositionFits v) (PositionFits 64) ps (λ p fits. (fits.0, omega arith)) ((positions_fault-none v ps).0 none)

@@ -1,13 +1,15 @@
 -- What the public functions of `src/` promise. Their contracts and the theorems that each allows one result cite these. Assumes nothing.
-use Rattle.std.specs.Prelude.{◌≡◌, Bool, ◌&&◌, List, ℕ, leb}
+use Rattle.std.specs.Prelude.{◌≡◌, Bool, ◌&&◌, List, ℕ, Result, leb, length}
+use Rattle.rules.specs.declared.fault.Fault.{Fault}
 use Rattle.rules.specs.declared.field.Tag.{Tag}
+use Rattle.rules.specs.Fault.{number_told}
 use Rattle.rules.specs.Reading.{or_else, length_fits, rule_of, rule_fault}
 
 -- `within`: whether a number is 1 to high
 abbrev pub OneTo : ℕ → ℕ → Bool → Type 0
 OneTo high x r = r ≡ (leb 1 x && leb x high)
 
--- `first_of`: the first of two faults, or the second where the first is 0
+-- two tests with `?` between them: the first of two faults, or the second where the first is 0
 abbrev pub FirstOf : ℕ → ℕ → ℕ → Type 0
 FirstOf first second r = r ≡ or_else first second
 
@@ -15,6 +17,6 @@ FirstOf first second r = r ≡ or_else first second
 abbrev pub LengthFits : Tag → ℕ → Bool → Type 0
 LengthFits kind len r = r ≡ length_fits kind len
 
--- `content_fault`: the first fault of the rule that a content is, from left to right; 0 where there is none
-abbrev pub ContentFault : List ℕ → Tag → ℕ → ℕ → ℕ → ℕ → Type 0
-ContentFault content kind len v n r = r ≡ rule_fault v n (rule_of kind len content)
+-- `content_fault`: the first fault of the rule that a content is, from left to right
+abbrev pub ContentFault : List ℕ → Tag → ℕ → ℕ → Result (Unit {0}) Fault → Type 0
+ContentFault content kind v n r = number_told r ≡ rule_fault v n (rule_of kind (length content) content)

@@ -1,34 +1,28 @@
 // The line that is printed for a reply.
 use searching::reply::Reply;
+use std::fmt;
 
-// The descriptor of standard output.
-const STDOUT: i32 = 1;
-
-// Prints the reply's number, place, splits, dead ends and rounds, and then every byte of the answer.
-pub(crate) fn show(reply: Reply, answer: &[u8; 64]) {
-    io::print_decimal(STDOUT, reply.number as u64);
-    spaced(reply.place as u64);
-    spaced(reply.splits);
-    spaced(reply.dead_ends);
-    spaced(reply.rounds);
-    values(answer);
-    io::write_all(STDOUT, b"\n");
+// A reply, and the buffer behind the call.
+#[derive(Clone, Copy)]
+pub(crate) struct Line<'a> {
+    pub(crate) reply: Reply,
+    pub(crate) answer: &'a [u8; 64],
 }
 
-// The 64 bytes as numbers, each after a space.
-fn values(answer: &[u8; 64]) {
-    for i in 0..64 {
-        spaced(wide(answer[i]));
+// The reply's number, place, splits, dead ends and rounds, and then every byte of the answer.
+impl fmt::Display for Line<'_> {
+    fn fmt<W: fmt::Write>(&self, f: &mut fmt::Formatter<W>) -> fmt::Result {
+        let Reply {
+            number,
+            place,
+            splits,
+            dead_ends,
+            rounds,
+        } = self.reply;
+        write!(f, "{number} {place} {splits} {dead_ends} {rounds}")?;
+        for byte in self.answer {
+            write!(f, " {byte}")?;
+        }
+        Ok(())
     }
-}
-
-// A space and a number in decimal.
-fn spaced(number: u64) {
-    io::write_all(STDOUT, b" ");
-    io::print_decimal(STDOUT, number);
-}
-
-// A byte as a number to print.
-fn wide(byte: u8) -> u64 {
-    byte as u64
 }

@@ -18,9 +18,16 @@ mod file;
 mod line;
 mod stack;
 
-fn main(rt: HostRuntime) {
+use line::Line;
+use std::io;
+
+fn main(rt: HostRuntime) -> io::Result<()> {
     let input = file::deep();
     let mut answer = [0; 64];
     let reply = stack::plan_in_little_stack(&rt, &input, &mut answer);
-    line::show(reply, &answer);
+    let line = Line {
+        reply,
+        answer: &answer,
+    };
+    println!(rt; "{line}")
 }

@@ -3,6 +3,7 @@
 use planner::plan::plan;
 use searching::reply::Reply;
 use std::fs;
+use std::rt::Files;
 
 // The bytes that are left to the planner.
 const LEFT: u64 = 2_097_152;
@@ -20,38 +21,19 @@ const CALL: u64 = 65_536;
 // The bytes of a block.
 const BLOCK: usize = 64_768;
 
-// The bytes of stack that the system allows this process, as it tells them in a file.
-fn allowed(rt: &HostRuntime) -> u64 {
-    match fs::read_to_string(rt, "/proc/self/limits") {
-        Ok(limits) => within(soft_limit(&limits)),
-        Err(_) => USUAL,
-    }
-}
-
-// The limit to go by, where the file names this one, or none.
-fn within(limit: Option<u64>) -> u64 {
-    match limit {
-        Some(bytes) if bytes < UNTOLD => bytes,
-        _ => USUAL,
-    }
+// The bytes of stack that the system allows this process, as it tells them in a file; the usual where the file names
+// none, or too many.
+fn allowed(rt: &(impl Files + Alloc)) -> u64 {
+    let limits = fs::read_to_string(rt, "/proc/self/limits").ok();
+    let told = limits.and_then(|limits| soft_limit(limits.as_str()));
+    told.filter(|bytes| *bytes < UNTOLD).unwrap_or(USUAL)
 }
 
 // The soft limit of the stack, the first word behind its name in the file. None where it is no number.
 fn soft_limit(limits: &str) -> Option<u64> {
-    for line in limits.lines() {
-        if let Some(words) = line.strip_prefix("Max stack size") {
-            return number(words);
-        }
-    }
-    None
-}
-
-// The first word, where it is a number.
-fn number(words: &str) -> Option<u64> {
-    match words.split_whitespace().next() {
-        Some(word) => word.parse::<u64>().ok(),
-        None => None,
-    }
+    let mut lines = limits.lines();
+    let words = lines.find_map(|line| line.strip_prefix("Max stack size"))?;
+    words.split_whitespace().next()?.parse::<u64>().ok()
 }
 
 // How many blocks, beside one that the last call has and does not use, fill what is allowed but for what is
@@ -65,13 +47,8 @@ fn blocks(allowed: u64) -> u64 {
 
 // Copies the first 64 bytes of a block, where there is room for them.
 fn take_over(answer: &mut [u8], block: &[u8; BLOCK]) {
-    if answer.len() < 64 {
-        return;
-    }
-    let mut i = 0;
-    while i < 64 {
-        answer[i] = block[i];
-        i += 1;
+    if let Some(front) = answer.get_mut(..64) {
+        front.copy_from_slice(&block[..64]);
     }
 }
 
@@ -88,6 +65,10 @@ fn plan_below(blocks: u64, input: &[u8], answer: &mut [u8]) -> Reply {
 }
 
 // Plans with 2 MiB of stack at most.
-pub(crate) fn plan_in_little_stack(rt: &HostRuntime, input: &[u8], answer: &mut [u8]) -> Reply {
+pub(crate) fn plan_in_little_stack(
+    rt: &(impl Files + Alloc),
+    input: &[u8],
+    answer: &mut [u8],
+) -> Reply {
     plan_below(blocks(allowed(rt)), input, answer)
 }

@@ -7,23 +7,20 @@ use super::reply::text;
 use planner::plan::plan;
 use reasons::reason;
 use sets::Room;
-use sound::check::{Checked, check};
+use sound::check::check;
 use texts::Text;
 
 // The splits that the program allows.
 const ALLOWANCE: u64 = 100_000;
 
 // The number of positions of a sound file; 0 where the file is refused.
+// Kept: 0 in place of an `Option`, since `positions_of`, by which `Printed` goes, says 0.
 fn positions(input: &[u8]) -> usize
     ensures { result ≡ positions_of (reading input.now) }
 {
-    let checked = check(input);
-    match checked {
-        Checked::Sound {
-            positions,
-            values: _,
-        } => positions as usize,
-        Checked::Refused { .. } => 0,
+    match check(input) {
+        Ok(limits) => limits.positions as usize,
+        Err(_) => 0,
     }
 }
 

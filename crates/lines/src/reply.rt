@@ -15,38 +15,54 @@ use texts::Text;
 fn begun(word: &[u8], first: u64, second: u64) -> Text
     ensures { Grows (line_of []) (word.now ++ behind (first ∷ second ∷ [])) result }
 {
-    Text::new().word(word).behind(first).behind(second)
+    let mut line = Text::new();
+    line.word(word);
+    line.behind(first);
+    line.behind(second);
+    line
 }
 
 // The line of a word and two numbers.
 fn first_line(word: &[u8], first: u64, second: u64) -> Text
     ensures { Grows (line_of []) (first_line word.now (first ∷ second ∷ [])) result }
 {
-    begun(word, first, second).byte(10)
+    let mut line = begun(word, first, second);
+    line.byte(b'\n');
+    line
 }
 
 // The line of a NONE: its counts, and behind them its place where it has one.
 fn none_line(splits: u64, dead_ends: u64, place: u64) -> Text
     ensures { Grows (line_of []) (none_line splits dead_ends place) result }
 {
-    let counts = begun(b"NONE", splits, dead_ends);
-    if place == 0 {
-        return counts.byte(10);
+    let mut counts = begun(b"NONE", splits, dead_ends);
+    if place != 0 {
+        counts.behind(place);
     }
-    counts.behind(place).byte(10)
+    counts.byte(b'\n');
+    counts
 }
 
 // What the program prints for a reply, where the first v values are a plan's.
+// Kept: v beside the values, since any v is taken, as `Shown` says, and a slice of v values asks that v fits.
 pub fn text(reply: Reply, values: &[u8; Room::POSITIONS], v: usize) -> Text
     ensures { Shown reply values.now v result }
 {
-    let number = reply.number;
-    let splits = reply.splits;
-    let dead_ends = reply.dead_ends;
+    let Reply {
+        number,
+        place,
+        splits,
+        dead_ends,
+        ..
+    } = reply;
     match number {
-        Reply::PLAN => first_line(b"PLAN", splits, dead_ends).values(values, v),
-        Reply::NONE => none_line(splits, dead_ends, reply.place as u64),
+        Reply::PLAN => {
+            let mut text = first_line(b"PLAN", splits, dead_ends);
+            text.values(values, v);
+            text
+        }
+        Reply::NONE => none_line(splits, dead_ends, place as u64),
         Reply::UNDECIDED => first_line(b"UNDECIDED", splits, dead_ends),
-        _ => first_line(b"REFUSED", number as u64, reply.place as u64),
+        _ => first_line(b"REFUSED", number as u64, place as u64),
     }
 }

@@ -1,5 +1,6 @@
-// The set arithmetic of the front panel, a set as its mask. The contracts are those of `sets`, by
-// specs/Promise.antt of that crate.
+// The set arithmetic of the front panel. C gives and takes a set as its mask, and each function works on the
+// `Room` with that mask. The contracts are those of `sets`, by specs/Promise.antt of that crate.
+// Kept: a set is a `u32` in every signature, as the C interface has it.
 ghost use Rattle.sets.specs.Promise.{Full, Single, Union, Common, Inside, Complement, Count, Smallest};
 
 use sets::Room;
@@ -9,7 +10,7 @@ use sets::Room;
 pub extern "C" fn oarloom_full(n: u32) -> u32
     ensures { Full n result }
 {
-    Room::full(n).mask
+    u32::from(Room::full(n))
 }
 
 // The set {x}; the empty set where x is not 1 to 32.
@@ -17,7 +18,7 @@ pub extern "C" fn oarloom_full(n: u32) -> u32
 pub extern "C" fn oarloom_single(x: u32) -> u32
     ensures { Single x result }
 {
-    Room::single(x).mask
+    u32::from(Room::single(x))
 }
 
 // The values that are in either set.
@@ -25,7 +26,7 @@ pub extern "C" fn oarloom_single(x: u32) -> u32
 pub extern "C" fn oarloom_union(a: u32, b: u32) -> u32
     ensures { Union a b result }
 {
-    Room { mask: a }.union(Room { mask: b }).mask
+    u32::from(Room::from(a).union(Room::from(b)))
 }
 
 // The values that are in both sets.
@@ -33,7 +34,7 @@ pub extern "C" fn oarloom_union(a: u32, b: u32) -> u32
 pub extern "C" fn oarloom_common(a: u32, b: u32) -> u32
     ensures { Common a b result }
 {
-    Room { mask: a }.common(Room { mask: b }).mask
+    u32::from(Room::from(a).common(Room::from(b)))
 }
 
 // Whether every value of a is in b.
@@ -41,7 +42,7 @@ pub extern "C" fn oarloom_common(a: u32, b: u32) -> u32
 pub extern "C" fn oarloom_inside(a: u32, b: u32) -> bool
     ensures { Inside a b result }
 {
-    Room { mask: a }.inside(Room { mask: b })
+    Room::from(a).inside(Room::from(b))
 }
 
 // The values of {1..n} that are not in a; the empty set where n is not 1 to 32.
@@ -49,7 +50,7 @@ pub extern "C" fn oarloom_inside(a: u32, b: u32) -> bool
 pub extern "C" fn oarloom_complement(a: u32, n: u32) -> u32
     ensures { Complement n a result }
 {
-    Room { mask: a }.complement(n).mask
+    u32::from(Room::from(a).complement(n))
 }
 
 // The number of values in a.
@@ -57,7 +58,7 @@ pub extern "C" fn oarloom_complement(a: u32, n: u32) -> u32
 pub extern "C" fn oarloom_count(a: u32) -> u32
     ensures { Count a result }
 {
-    Room { mask: a }.count()
+    Room::from(a).count()
 }
 
 // The smallest value in a; 0 where a is empty.
@@ -65,5 +66,5 @@ pub extern "C" fn oarloom_count(a: u32) -> u32
 pub extern "C" fn oarloom_smallest(a: u32) -> u32
     ensures { Smallest a result }
 {
-    Room { mask: a }.smallest()
+    Room::from(a).smallest()
 }

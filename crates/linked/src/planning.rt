@@ -7,6 +7,7 @@ use planner::plan::plan;
 use planner::rounds::rounds_most;
 
 // Plans a file of rules: `plan` of the planner, with the reply's numbers in the five cells.
+// Kept: a cell for each number in place of one reply, as the C interface has it.
 #[unsafe(no_mangle)]
 pub extern "C" fn oarloom_plan(
     input: &[u8],
@@ -21,7 +22,7 @@ pub extern "C" fn oarloom_plan(
     ensures { Linked input.now answer.old answer.new allowance number.new place.new splits.new dead_ends.new rounds.new }
 {
     let reply = plan(input, answer, allowance);
-    *number = reply.number as u64;
+    *number = u64::from(reply.number);
     *place = reply.place as u64;
     *splits = reply.splits;
     *dead_ends = reply.dead_ends;

@@ -4,7 +4,8 @@ use mathlib.Core.List.{List}
 use Prim.Native.Nat.{ℕ}
 use Rattle.sets.proofs.Unique.{one-result}
 use Rattle.rules.specs.declared.field.Tag.{Tag}
+use Rattle.rooms.specs.Held.{Held}
 use Rattle.lowest.specs.Promise.{LowestByKind}
 
-pub lowest_by_kind_unique : (rooms content : List ℕ) (kind : Tag) (len v bound : ℕ) {r s : ℕ} → LowestByKind rooms content kind len v bound r → LowestByKind rooms content kind len v bound s → r ≡ s
-lowest_by_kind_unique rooms content kind len v bound p q = one-result p q
+pub lowest_by_kind_unique : (rooms : Held) (content : List ℕ) (kind : Tag) (bound : ℕ) {r s : ℕ} → LowestByKind rooms content kind bound r → LowestByKind rooms content kind bound s → r ≡ s
+lowest_by_kind_unique rooms content kind bound p q = one-result p q

@@ -4,11 +4,10 @@ use mathlib.Core.Logic.Iff
 use mathlib.Core.Logic.{◌↔◌, inl, inr, ⊎_elim}
 use mathlib.Core.Bool.{Bool, true, false}
 use mathlib.Core.List.{List, [], ◌∷◌, Memᴰ}
-use Prim.Native.Nat.{ℕ, ◌+◌, ◌-◌, ◌^◌, ◌≤◌, ◌<◌}
+use Prim.Native.Nat.{ℕ, ◌^◌, ◌<◌}
 use native.Mathlib.Decide.{ℕ_discrete}
 use native.Mathlib.Omega.{arith}
 use lib.Dec.{T, eqb, not_T}
-use lib.ListN.{get_or, take, drop}
 use Rattle.sets.specs.Sets.{IsMember, common, complement, is_empty, inside, single, smallest, count, beside}
 use Rattle.sets.proofs.Members.{member_empty, member_range, member-single}
 use Rattle.sets.proofs.Sameness.{empty_test, inside_iff, inside_below, single_below}
@@ -16,12 +15,8 @@ use Rattle.sets.proofs.Counting.{count_positive, count-inside, count_of-single, 
 use Rattle.sets.proofs.Smallest.{smallest-member, partly-inside_two}
 use Rattle.sets.proofs.Unions.{empty-common}
 use Rattle.lists.specs.Lists.{Some}
-use Rattle.lists.proofs.FrontParts.{front_on, front_end}
 use Rattle.lists.proofs.TestLaws.{test_true, eq_holds, eq_fails, fails_false}
-use Rattle.rules.specs.Contents.{Positions}
 use Rattle.steps.specs.Boxes.{room_at}
-use Rattle.clauses.proofs.FrontRooms.{room-there}
-use Rattle.clauses.proofs.PositionsInTurn.{position_fits}
 use Rattle.lowest.specs.Untaken.{left_by, without_alone, untaken}
 
 -- ---- what one room leaves of a set
@@ -43,13 +38,17 @@ without_one : (room m : ℕ) → (room ≡ 0 → ⊥) → count room ≡ 1 → w
 without_one room m some one = left_by_lem room m (some_value room some) (test_true (eqb (count room) 1) ((eq_holds (count room) 1).1 one))
 
 -- a room of more values leaves all
-pub without_more : (room m : ℕ) → (room ≡ 0 → ⊥) → (count room ≡ 1 → ⊥) → without_alone room m ≡ m
+without_more : (room m : ℕ) → (room ≡ 0 → ⊥) → (count room ≡ 1 → ⊥) → without_alone room m ≡ m
 without_more room m some more = left_by_lem room m (some_value room some) ((fails_false (eqb (count room) 1)).0 ((eq_fails (count room) 1).1 more))
 
 -- the others, as they are computed: what the set shares with the complement of the room
-pub without_one_computed : (room m : ℕ) {beyond rest : ℕ} → (room ≡ 0 → ⊥) → count room ≡ 1 → beyond ≡ complement 32 room → rest ≡ common m beyond → without_alone room m ≡ rest
+pub without_one_computed : (room m : ℕ) {beyond rest : ℕ} → is_empty room ≡ false → count room ≡ 1 → beyond ≡ complement 32 room → rest ≡ common m beyond → without_alone room m ≡ rest
 unfolding beside
-without_one_computed room m some one e f = without_one room m some one ∙ sym (f ∙ ap (common m) e)
+without_one_computed room m some one e f = left_by_lem room m some (test_true (eqb (count room) 1) ((eq_holds (count room) 1).1 one)) ∙ sym (f ∙ ap (common m) e)
+
+-- and all, as they are computed
+pub without_more_computed : (room m : ℕ) {rest : ℕ} → is_empty room ≡ false → (count room ≡ 1 → ⊥) → rest ≡ m → without_alone room m ≡ rest
+without_more_computed room m some more e = left_by_lem room m some ((fails_false (eqb (count room) 1)).0 ((eq_fails (count room) 1).1 more)) ∙ sym e
 
 -- a value of the set is left exactly if the room does not lie inside {it}
 member_without : (room m x : ℕ) → room < 2 ^ 32 → m < 2 ^ 32 → IsMember x (without_alone room m) ↔ (IsMember x m × (T (inside room (single x)) → ⊥))
@@ -95,24 +94,20 @@ untaken_empty box (p ∷ ps) = ap (λ (m : ℕ). untaken box m ps) (go (is_empty
     go false true = empty-common (complement 32 (room_at box p))
     go false false = refl
 
-module _ {v count : ℕ} {bytes : List ℕ} (positions : Positions v count bytes) (rooms : List ℕ) (m i : ℕ) where
-  -- before the end: what the room at an index leaves, and then the positions behind it
-  pub untaken_next : i < count → {left : ℕ} → without_alone (get_or rooms (get_or bytes i 0 - 1) 0) m ≡ left
-      → untaken (take v rooms) m (drop i (take count bytes)) ≡ untaken (take v rooms) left (drop (i + 1) (take count bytes))
+module _ (box : List ℕ) (m : ℕ) {left : List ℕ} where
+  -- what the room of the first position leaves, and then the positions behind it
+  pub untaken_next : {p : ℕ} {more : List ℕ} → left ≡ p ∷ more → {m' : ℕ} → without_alone (room_at box p) m ≡ m' → untaken box m left ≡ untaken box m' more
   unfolding untaken
-  untaken_next there e =
-      let fit = position_fits positions i there in
-      ap (untaken (take v rooms) m) (front_on count i bytes positions.there there)
-      ∙ ap (λ (k : ℕ). untaken (take v rooms) k (drop (i + 1) (take count bytes))) (ap (λ (room : ℕ). without_alone room m) (room-there v (get_or bytes i 0) rooms fit.0 fit.1) ∙ e)
+  untaken_next {p} {more} first e = ap (untaken box m) first ∙ ap (λ (k : ℕ). untaken box k more) e
 
   -- an empty room: nothing is untaken
-  pub untaken-none : i < count → get_or rooms (get_or bytes i 0 - 1) 0 ≡ 0 → untaken (take v rooms) m (drop i (take count bytes)) ≡ 0
-  untaken-none there e = untaken_next there (without_empty (get_or rooms (get_or bytes i 0 - 1) 0) m e) ∙ untaken_empty (take v rooms) (drop (i + 1) (take count bytes))
+  pub untaken-none : {p : ℕ} {more : List ℕ} → left ≡ p ∷ more → T (is_empty (room_at box p)) → untaken box m left ≡ 0
+  untaken-none {p} {more} first t = untaken_next first (without_empty (room_at box p) m ((empty_test (room_at box p)).0 t)) ∙ untaken_empty box more
 
-  -- at the end: all that was left
-  pub untaken_end : count ≤ i → untaken (take v rooms) m (drop i (take count bytes)) ≡ m
+  -- where no position is left: all that was left of the set
+  pub untaken_end : left ≡ [] → untaken box m left ≡ m
   unfolding untaken
-  untaken_end h = ap (untaken (take v rooms) m) (front_end count i bytes h)
+  untaken_end none = ap (untaken box m) none
 
 -- a value of a set is untaken exactly if no named position has its room inside {it}; the rooms of the named positions are masks
 pub member-untaken : (box : List ℕ) (m : ℕ) → m < 2 ^ 32 → (ps : List ℕ) → ((p : ℕ) → Memᴰ p ps → room_at box p < 2 ^ 32) → (x : ℕ)

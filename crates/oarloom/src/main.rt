@@ -5,45 +5,37 @@
 // printed.
 #![tactic(auto)]
 
-mod noted;
+mod failure;
 
+use failure::say;
 use lines::answer::answer;
-use noted::{Noted, say};
-use streams::{Taken, put, take_whole};
-use texts::Text;
+use streams::{NotWhole, put, take_whole};
 
-// Says the words for a reply, where there are any.
-fn explain(rt: &HostRuntime, said: Text) {
-    let bytes = said.bytes;
-    let len = said.len;
-    if 0 < len {
-        let mut errors = rt.stderr();
-        put(&mut errors, b"oarloom: ", 9);
-        put(&mut errors, &bytes, len);
+fn main(rt: HostRuntime) {
+    // One byte more than a file may have, so that a longer one is known to be too long.
+    let mut input = [0u8; 32769];
+    match take_whole(&mut rt.stdin(), &mut input) {
+        Ok(len) => reply_to(&rt, &input[..len]),
+        Err(NotWhole::TooLong) => reply_to(&rt, &input),
+        Err(NotWhole::Failed(error)) => say(&rt, "oarloom: standard input", error),
     }
 }
 
 // Prints the reply to an input.
 fn reply_to(rt: &HostRuntime, input: &[u8]) {
     let output = answer(input);
-    let printed = output.printed;
-    let bytes = printed.bytes;
-    let len = printed.len;
-    let mut out = Noted::new(rt.stdout());
-    if put(&mut out, &bytes, len) {
-        explain(rt, output.said);
-    } else {
-        say(rt, "oarloom: standard output", out.error);
+    let printed = output.printed.as_bytes();
+    match put(&mut rt.stdout(), printed, printed.len()) {
+        Ok(()) => explain(rt, output.said.as_bytes()),
+        Err(error) => say(rt, "oarloom: standard output", Some(error)),
     }
 }
 
-fn main(rt: HostRuntime) {
-    // One byte more than a file may have, so that a longer one is known to be too long.
-    let mut input = [0u8; 32769];
-    let mut source = Noted::new(rt.stdin());
-    match take_whole(&mut source, &mut input) {
-        Taken::Whole(n) => reply_to(&rt, &input[..n]),
-        Taken::TooLong => reply_to(&rt, &input),
-        Taken::Failed => say(&rt, "oarloom: standard input", source.error),
+// Says the words for a reply, where there are any. Where they cannot be written, nothing tells so.
+fn explain(rt: &HostRuntime, said: &[u8]) {
+    if !said.is_empty() {
+        let mut errors = rt.stderr();
+        let _ = put(&mut errors, b"oarloom: ", 9);
+        let _ = put(&mut errors, said, said.len());
     }
 }

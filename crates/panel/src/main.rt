@@ -7,9 +7,7 @@
 #![tactic(auto)]
 
 use sets::Room;
-
-// The descriptor of standard output.
-const STDOUT: i32 = 1;
+use std::io;
 
 // The sets that each operation is tried on: the empty and the whole set, sets at both ends of 1 to
 // 32 and in its middle, sets that are each other's complement, and sets with no pattern.
@@ -40,101 +38,50 @@ const MASKS: [u32; 20] = [
 // where an answer changes, one in the middle, and the largest.
 const NUMBERS: [u32; 9] = [0, 1, 2, 3, 16, 31, 32, 33, 4_294_967_295];
 
-fn main() {
-    try_numbers();
-    try_sets();
+fn main(rt: HostRuntime) -> io::Result<()> {
+    try_numbers(&rt)?;
+    try_sets(&rt)
 }
 
-// The operations that make a set of a number, at each number.
-fn try_numbers() {
-    for i in 0..NUMBERS.len() {
-        try_number(NUMBERS[i]);
+// The operations that make a set of a number, at each number: as the size of a set, and as its only value.
+fn try_numbers(rt: &impl Print) -> io::Result<()> {
+    for n in NUMBERS {
+        println!(rt; "full {n} {}", u32::from(Room::full(n)))?;
+        println!(rt; "single {n} {}", u32::from(Room::single(n)))?;
     }
+    Ok(())
 }
 
-// The operations that start from a set, at each set.
-fn try_sets() {
-    for i in 0..MASKS.len() {
-        try_set(MASKS[i]);
+// The operations that start from a set, at each set: alone, within each number and with each set.
+fn try_sets(rt: &impl Print) -> io::Result<()> {
+    for mask in MASKS {
+        let set = Room::from(mask);
+        println!(rt; "count {mask} {}", set.count())?;
+        println!(rt; "smallest {mask} {}", set.smallest())?;
+        try_complements(rt, mask)?;
+        try_pairs(rt, mask)?;
     }
+    Ok(())
 }
 
-// The complement of one set within each number.
-fn try_complements(mask: u32) {
-    for i in 0..NUMBERS.len() {
-        try_complement(mask, NUMBERS[i]);
+// The complement of one set within each number. The line names the set first and then the number.
+fn try_complements(rt: &impl Print, mask: u32) -> io::Result<()> {
+    let set = Room::from(mask);
+    for n in NUMBERS {
+        println!(rt; "complement {mask} {n} {}", u32::from(set.complement(n)))?;
     }
+    Ok(())
 }
 
-// One set with each set, itself too. As this is called for each set, every pair is tried in both
-// orders.
-fn try_pairs(a: u32) {
-    for i in 0..MASKS.len() {
-        try_pair(a, MASKS[i]);
+// The operations on two sets, in this order: one set with each set, itself too. As this is called for
+// each set, every pair is tried in both orders.
+fn try_pairs(rt: &impl Print, a: u32) -> io::Result<()> {
+    let first = Room::from(a);
+    for b in MASKS {
+        let second = Room::from(b);
+        println!(rt; "union {a} {b} {}", u32::from(first.union(second)))?;
+        println!(rt; "common {a} {b} {}", u32::from(first.common(second)))?;
+        println!(rt; "inside {a} {b} {}", first.inside(second))?;
     }
-}
-
-// A number as the size of a set, and as its only value.
-fn try_number(n: u32) {
-    one(b"full", n, Room::full(n).mask);
-    one(b"single", n, Room::single(n).mask);
-}
-
-// All that is asked of one set, alone, within each number and with each set.
-fn try_set(mask: u32) {
-    let set = Room { mask: mask };
-    one(b"count", mask, set.count());
-    one(b"smallest", mask, set.smallest());
-    try_complements(mask);
-    try_pairs(mask);
-}
-
-// One complement: the line names the set first and then the number.
-fn try_complement(mask: u32, n: u32) {
-    let set = Room { mask: mask };
-    two(b"complement", mask, n, set.complement(n).mask);
-}
-
-// The operations on two sets, in this order.
-fn try_pair(a: u32, b: u32) {
-    let first = Room { mask: a };
-    let second = Room { mask: b };
-    two(b"union", a, b, first.union(second).mask);
-    two(b"common", a, b, first.common(second).mask);
-    verdict(b"inside", a, b, first.inside(second));
-}
-
-// A line with one argument.
-fn one(name: &[u8], a: u32, res: u32) {
-    io::write_all(STDOUT, name);
-    number(a);
-    number(res);
-    io::write_all(STDOUT, b"\n");
-}
-
-// A line with two arguments.
-fn two(name: &[u8], a: u32, b: u32, res: u32) {
-    io::write_all(STDOUT, name);
-    number(a);
-    number(b);
-    number(res);
-    io::write_all(STDOUT, b"\n");
-}
-
-// A line with two arguments whose result is yes or no.
-fn verdict(name: &[u8], a: u32, b: u32, res: bool) {
-    io::write_all(STDOUT, name);
-    number(a);
-    number(b);
-    if res {
-        io::write_all(STDOUT, b" true\n");
-    } else {
-        io::write_all(STDOUT, b" false\n");
-    }
-}
-
-// A space and a number in decimal, as each argument and each number that comes back is written.
-fn number(n: u32) {
-    io::write_all(STDOUT, b" ");
-    io::print_decimal(STDOUT, n as u64);
+    Ok(())
 }

@@ -1,19 +1,13 @@
--- The values that the first v rooms of an array may still lose, room by room. Assumes nothing.
-use mathlib.Core.Path.{◌≡◌, ap}
+-- The values that rooms may still lose are the sum of those of each, and with 64 rooms at most a number of 64 bits. Assumes nothing.
+use mathlib.Core.Path.{◌≡◌, refl}
 use mathlib.Core.List.{List}
-use Prim.Native.Nat.{ℕ, ◌+◌, ◌-◌, ◌≤◌, ◌<◌}
-use lib.ListN.{length, get_or, take, drop}
-use Rattle.lists.proofs.FrontParts.{front_on, front_end}
+use Prim.Native.Nat.{ℕ, ◌-◌}
+use Rattle.std.specs.List.{sum_by}
+use Rattle.std.proofs.lemmas.List.Recursion.{is_sum_by}
 use Rattle.sets.specs.Sets.{count}
 use Rattle.steps.specs.Boxes.{spare_values}
 
-module _ (v i : ℕ) (rooms : List ℕ) where
-  -- those of the next room, and those of the others
-  pub spare_on : v ≤ length rooms → i < v → spare_values (drop i (take v rooms)) ≡ (count (get_or rooms i 0) - 1) + spare_values (drop (i + 1) (take v rooms))
-  unfolding spare_values
-  spare_on long h = ap spare_values (front_on v i rooms long h)
-
-  -- none with no room left
-  pub spare_end : v ≤ i → spare_values (drop i (take v rooms)) ≡ 0
-  unfolding spare_values
-  spare_end h = ap spare_values (front_end v i rooms h)
+-- room by room
+pub spare_sum : (box : List ℕ) → spare_values box ≡ sum_by (λ room. count room - 1) box
+unfolding spare_values
+spare_sum = is_sum_by spare_values (λ room. count room - 1) refl (λ _ _. refl)

@@ -1,93 +1,111 @@
 -- Laws of the walk that makes the starting rooms: field by field, each starting set put into its place. Assumes nothing.
-use mathlib.Core.Path.{◌≡◌, refl, sym, ap, ◌∙◌, subst}
-use mathlib.Core.List.{List, [], ◌∷◌}
-use Prim.Native.Nat.{ℕ, zero, suc, ◌+◌, ◌-◌, ◌≤◌}
-use native.Mathlib.Omega.{arith}
-use lib.ListN.{length, take, drop, set}
-use Rattle.lists.proofs.TakeDrop.{rest_part}
+use mathlib.Core.Path.{◌≡◌, refl, sym, ap, ap₂, ◌∙◌, subst}
+use mathlib.Core.List.{List, [], ◌∷◌, map}
+use Prim.Native.Nat.{ℕ, zero, suc, ◌-◌, ◌≤◌}
+use lib.ListN.{length, take, drop, set, replicate}
+use Rattle.std.proofs.lemmas.List.{take-replicate, drop-replicate}
+use Rattle.lists.specs.Lists.{Every}
+use Rattle.sets.specs.Sets.{full}
 use Rattle.rules.specs.declared.field.Atom.{Atom}
-use Rattle.rules.specs.declared.field.Head.{Head}
 use Rattle.rules.specs.declared.field.Tag.{Tag}
-use Rattle.rules.specs.declared.field.Tag.TheVariants.{Starting}
-use Rattle.rules.specs.Contents.{AtomsFit}
-use Rattle.rules.specs.Rules.{Rule, Field, File, clause, equality, starting, at_most}
-use Rattle.rules.specs.Reading.{sound, tag_of, atom_of, rule_of, rule_at, reading}
-use Rattle.rules.specs.Sound.{file_of, fields_in}
+use Rattle.rules.specs.declared.field.Tag.TheVariants.{Header, Clause, Equality, Starting, AtMost, Unknown}
+use Rattle.rules.specs.Contents.{AtomsFit, ContentFits}
+use Rattle.rules.specs.Each.{Framed, frames_in, as_field, FrameFits}
+use Rattle.rules.specs.Rules.{Rule, File, clause, equality, starting, at_most}
+use Rattle.rules.specs.Reading.{atom_of, rule_of, reading}
+use Rattle.rules.specs.Sound.{file_of, fields_in, SoundInput}
 use Rattle.rules.specs.UpTo.{rules_of}
-use Rattle.rules.specs.Walk.{Walk}
 use Rattle.rules.specs.Writing.{fields_of, PositionFits}
 use Rattle.rules.proofs.Reading.ContentLaws.{one_atom}
-use Rattle.rules.proofs.Reading.WalkLaws.{part_from, FieldHere, walk_start, walk_end}
+use Rattle.rules.proofs.Reading.FrameLaws.{frames_sound}
 use Rattle.rules.proofs.Writing.UpToLaws.{placed-rules}
-use Rattle.steps.specs.Boxes.{with_room}
+use Rattle.rooms.specs.Held.{Held, with_box}
+use Rattle.steps.specs.Boxes.{with_room, start_box}
 use Rattle.steps.specs.Start.{start_by, starts_by}
+use Rattle.steps.proofs.Start.StartLaws.{starts-length}
 
 -- the rules of a file's fields are its rules
 field-rules : (file : File) → rules_of (fields_of file) ≡ file.rules
 unfolding fields_of
 field-rules file = placed-rules 5 file.rules
 
--- the walk has come to `at`: with the starting sets from there on the rooms become those of all
-pub record StartsLeft (s base : List ℕ) (rooms : List ℕ) (at : ℕ) : Type 0 where
-  pub v : ℕ
-  pub left : List Field
-  pub walk : Walk s v at left
-  pub whole : starts_by (file_of (reading s)).rules base ≡ starts_by (rules_of left) rooms
+-- the walk has come to these fields: they fit, and with their starting sets the rooms become those of all
+pub record StartsLeft (s : List ℕ) (base : Held) (frames : List Framed) (rooms : Held) : Type 0 where
+  pub fit : Every (FrameFits (length rooms.box)) frames
+  pub behind : rooms.rest ≡ base.rest
+  pub whole : starts_by (file_of (reading s)).rules base.box ≡ starts_by (rules_of (map as_field frames)) rooms.box
 
 -- at the start no set is in its place
-pub starts_begin : (s base : List ℕ) → reading s ≡ sound (file_of (reading s)) → StartsLeft s base base 5
+pub starts_begin : (s : List ℕ) (base : Held) {frames : List Framed} → SoundInput s (length base.box) → frames ≡ frames_in s → StartsLeft s base frames base
 unfolding fields_in
-starts_begin s base read = record {
-  v = (file_of (reading s)).v;
-  left = fields_in s;
-  walk = walk_start (record { read = read; positions = refl });
-  whole = ap (λ (rules : List Rule). starts_by rules base) (sym (field-rules (file_of (reading s))));
-}
+starts_begin s base {frames} sound all =
+    let framing = frames_sound sound in
+    subst (λ (fs : List Framed). StartsLeft s base fs base) (sym all)
+    (record {
+      fit = framing.fit;
+      behind = refl;
+      whole = ap (λ (rules : List Rule). starts_by rules base.box) (sym (field-rules (file_of (reading s))) ∙ ap rules_of (sym framing.fields));
+    })
 
--- at the end all are
-pub starts_end : {s base rooms : List ℕ} {at : ℕ} → StartsLeft s base rooms at → length s ≤ at → rooms ≡ starts_by (file_of (reading s)).rules base
-unfolding starts_by
-starts_end {rooms = rooms} going past = sym (going.whole ∙ ap (λ (fields : List Field). starts_by (rules_of fields) rooms) (walk_end going.walk past))
+module _ {s : List ℕ} {base : Held} {frames : List Framed} {rooms : Held} (going : StartsLeft s base frames rooms) where
+  -- at the end all are
+  pub starts_end : frames ≡ [] → rooms ≡ with_box (starts_by (file_of (reading s)).rules base.box) base
+  unfolding starts_by
+  starts_end none =
+      ap₂ (λ (box rest : List ℕ). record { box = box; rest = rest })
+      (sym (going.whole ∙ ap (λ (fs : List Framed). starts_by (rules_of (map as_field fs)) rooms.box) none)) going.behind
 
--- behind a field its set is
-pub starts_on : {s base rooms : List ℕ} {at : ℕ} (going : StartsLeft s base rooms at) {head : Head} {content : List ℕ} → FieldHere s going.v at going.left head content
-    → {after : List ℕ} → after ≡ start_by (rule_at (drop at s)) rooms → (next : ℕ) → next ≡ at + 3 + head.length → StartsLeft s base after next
-unfolding starts_by
-starts_on {rooms = rooms} going field e next n = record {
-  v = going.v;
-  left = field.later;
-  walk = field.on next n;
-  whole = going.whole ∙ ap (λ (fields : List Field). starts_by (rules_of fields) rooms) field.first ∙ ap (starts_by (rules_of field.later)) (sym e);
-}
+  module _ {f : Framed} {more : List Framed} (next : frames ≡ f ∷ more) where
+    all_fit : FrameFits (length rooms.box) f × Every (FrameFits (length rooms.box)) more
+    all_fit = subst (Every (FrameFits (length rooms.box))) next going.fit
+
+    -- the content of the next field fits
+    pub starts-fit : ContentFits f.kind (length rooms.box) (length f.content) f.content
+    starts-fit = all_fit.0
+
+    -- and behind it its set is in its place
+    pub starts_on : {after : Held} → after ≡ with_box (start_by (rule_of f.kind (length f.content) f.content) rooms.box) rooms → StartsLeft s base more after
+    unfolding starts_by
+    starts_on {after} e =
+        let rule = rule_of f.kind (length f.content) f.content in
+        subst (StartsLeft s base more) (sym e)
+        (record {
+          fit = subst (λ (v : ℕ). Every (FrameFits v) more) (sym (starts-length (rule ∷ []) rooms.box)) all_fit.1;
+          behind = going.behind;
+          whole = going.whole ∙ ap (λ (fs : List Framed). starts_by (rules_of (map as_field fs)) rooms.box) next;
+        })
 
 -- ---- one field
 
-module _ {s : List ℕ} {v at : ℕ} {left : List Field} {head : Head} (field : FieldHere s v at left head (part_from (at + 3) s)) where
-  rule_is : (kind : Tag) → tag_of head.tag ≡ kind → rule_at (drop at s) ≡ rule_of kind head.length (drop (at + 3) s)
-  rule_is kind e = field.rule kind e ∙ ap (rule_of kind head.length) (rest_part (at + 3) s)
+module _ (v : ℕ) (content : List ℕ) {kind : Tag} (fits : ContentFits kind v (length content) content) (is : kind ≡ Starting) where
+  starting_fits : ContentFits Starting v (length content) content
+  starting_fits = subst (λ (k : Tag). ContentFits k v (length content) content) is fits
 
-  -- a field that gives no starting set leaves the rooms
-  pub start_other : (kind : Tag) → tag_of head.tag ≡ kind → (rooms : List ℕ) → start_by (rule_of kind head.length (drop (at + 3) s)) rooms ≡ rooms → rooms ≡ start_by (rule_at (drop at s)) rooms
-  start_other kind e rooms same = sym (ap (λ (r : Rule). start_by r rooms) (rule_is kind e) ∙ same)
+  -- a starting set has five bytes
+  pub start_five : length content ≡ 5
+  start_five = starting_fits.0
 
-  module _ (is : tag_of head.tag ≡ Starting) where
-    -- five bytes behind its head there is one that does
-    pub start_ends : at + 3 + 5 ≤ length s
-    start_ends = omega (arith, field.ends, (field.fits Starting is).0)
+  -- its position is 1 to v
+  pub start-position : {atom : Atom} → atom ≡ atom_of content → PositionFits v atom.position
+  start-position read =
+      subst (λ (a : Atom). PositionFits v a.position) (sym read) (subst (AtomsFit v) (one_atom (length content) content starting_fits.0) starting_fits.1.fit).0
 
-    module _ {atom : Atom} (read : atom ≡ atom_of (drop (at + 3) s)) where
-      -- its position is 1 to 64
-      pub start-position : PositionFits 64 atom.position
-      start-position =
-          let fits = field.fits Starting is in
-          let one = (subst (AtomsFit v) (one_atom head.length (part_from (at + 3) s) fits.0) fits.1.fit).0 in
-          let same = ap (λ (bytes : List ℕ). (atom_of bytes).position) (rest_part (at + 3) s) in
-          omega (arith, one, fits.1.few, same, ap (λ (a : Atom). a.position) read)
+-- and its set is the room of that position
+pub start-put : (content box : List ℕ) {kind : Tag} {atom : Atom} → kind ≡ Starting → atom ≡ atom_of content
+    → with_room box atom.position atom.set ≡ start_by (rule_of kind (length content) content) box
+unfolding start_by rule_of
+start-put content box {kind} is read =
+    ap (λ (a : Atom). with_room box a.position a.set) read ∙ sym (ap (λ (k : Tag). start_by (rule_of k (length content) content) box) is)
 
-      -- and its set is the room of that position
-      pub start-put : (rooms : List ℕ) → set rooms (atom.position - 1) atom.set ≡ start_by (rule_at (drop at s)) rooms
-      unfolding start_by with_room rule_of
-      start-put rooms = ap (λ (a : Atom). set rooms (a.position - 1) a.set) read ∙ sym (ap (λ (r : Rule). start_by r rooms) (rule_is Starting is))
+-- a field of any other kind leaves the box
+pub start_other : (kind : Tag) (content box : List ℕ) → (kind ≡ Starting → ⊥) → box ≡ start_by (rule_of kind (length content) content) box
+unfolding start_by rule_of
+start_other Header content box other = refl
+start_other Clause content box other = refl
+start_other Equality content box other = refl
+start_other Starting content box other = absurd (other refl)
+start_other AtMost content box other = refl
+start_other Unknown content box other = refl
 
 -- ---- the first v rooms
 
@@ -107,3 +125,17 @@ front-starts v (equality m ps ∷ rules) rooms = front-starts v rules rooms
 front-starts v (at_most k m ps ∷ rules) rooms = front-starts v rules rooms
 front-starts v (starting a ∷ rules) rooms =
     front-starts v rules (set rooms (a.position - 1) a.set) ∙ ap (starts_by rules) (front-set v rooms (a.position - 1) a.set)
+
+-- ---- the rooms before any starting set
+
+-- of 64 rooms {1..n}, v are those of positions
+abbrev pub plain : ℕ → ℕ → Held
+plain v n = record { box = start_box v n; rest = start_box (64 - v) n }
+
+-- an array of 64 such rooms is these
+pub plain_made : (v n m : ℕ) {rooms : Held} → v ≤ 64 → rooms ≡ record { box = take v (replicate 64 m); rest = drop v (replicate 64 m) } → m ≡ full n → rooms ≡ plain v n
+unfolding start_box
+plain_made v n m few made e =
+    made
+    ∙ (λ i. record { box = take-replicate v 64 m few i; rest = drop-replicate v 64 m i })
+    ∙ ap (λ (room : ℕ). record { box = replicate v room; rest = replicate (64 - v) room }) e

@@ -6,7 +6,7 @@ use super::start::start_rooms;
 use searching::first::search_from;
 use searching::reply::Reply;
 use sets::Room;
-use sound::check::{Checked, check};
+use sound::check::check;
 
 // The one reply of 01's table for every input, every buffer length and every allowance: 10, 11, 12,
 // then the file's own refusals, then what the search finds, with the rounds of the first box. A plan's
@@ -24,12 +24,11 @@ pub fn plan(input: &[u8], answer: &mut [u8], allowance: u64) -> Reply
     if 1000000 < allowance {
         return Reply::refused(12, 0);
     }
-    let checked = check(input);
-    match checked {
-        Checked::Refused { number, place } => Reply::refused(number, place),
-        Checked::Sound { positions, values } => {
-            let v = positions as usize;
-            search_from(input, v, allowance, start_rooms(input, values), answer)
+    match check(input) {
+        Ok(limits) => {
+            let rooms = start_rooms(input, limits.positions as usize, limits.values);
+            search_from(input, allowance, rooms, answer)
         }
+        Err(refusal) => Reply::refused(u32::from(refusal.fault), refusal.place),
     }
 }

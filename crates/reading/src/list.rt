@@ -2,84 +2,65 @@
 //
 // A line with a colon is a file: what it is, and behind the last colon its bytes in decimal, each
 // after a space. A line with none heads the files below it.
-use super::line::show_front;
+use super::line::show;
+use std::alloc::{AllocError, Global};
+use std::io::{self, ErrorKind, Read};
 
-// The descriptor of standard input.
-const STDIN: i32 = 0;
+// The most bytes of the list that are read.
+const LIST_BYTES: u64 = 32_768;
 
-// In place of a file's length where no colon was met in the line. No file is so long.
-const NONE: usize = 1_000;
+// The most bytes that a file of the list has.
+const FILE_BYTES: usize = 32;
 
-// Shows every file of the list, in its order.
-pub(crate) fn all() {
-    let mut space = [0u8; 32768];
-    read_into(&mut space);
+// Shows every file of the list, in its order and numbered from 1.
+pub(crate) fn all(rt: &(impl Input + Print + AllocGlobal)) -> io::Result<()> {
+    let text = list(rt)?;
+    let files = text
+        .split_inclusive(|byte| *byte == b'\n')
+        .filter_map(words);
+    for (number, words) in (1..).zip(files) {
+        show(rt, number, &bytes(rt.alloc(), words)?)?;
+    }
+    Ok(())
 }
 
-// Reads the list into some bytes, and shows its files.
-fn read_into(space: &mut [u8]) {
-    let len = io::read_full(STDIN, space);
-    walk(&space[..len]);
-}
-
-// Reads the list byte by byte, and shows each file at the end of its line.
-fn walk(text: &[u8]) {
-    let mut space = [0u8; 32];
-    let file: &mut [u8] = &mut space;
-    let mut number = 0;
-    let mut len = NONE;
-    for i in 0..text.len() {
-        let byte = text[i];
-        if byte == b'\n' {
-            number = shown(number, file, len);
-        }
-        len = step(file, len, byte);
+// The list. Where a read fails it ends, as at the end of the input.
+fn list(rt: &(impl Input + AllocGlobal)) -> io::Result<Vec<u8>> {
+    let mut text = Vec::new(rt.alloc());
+    match rt.reader().take(LIST_BYTES).read_to_end(&mut text) {
+        Err(error) if error.kind() == ErrorKind::OutOfMemory => Err(error),
+        _ => Ok(text),
     }
 }
 
-// Shows the file with the next number, if there is a file, and answers the number of the last one.
-fn shown(number: u64, file: &[u8], len: usize) -> u64 {
-    if len == NONE {
-        return number;
-    }
-    let next = std::num::wrapping_add_u64(number, 1);
-    show_front(next, file, len);
-    next
+// What stands behind the last colon of a line, if it has one. A line without its end is none.
+fn words(line: &[u8]) -> Option<&[u8]> {
+    let whole = line.strip_suffix(b"\n")?;
+    let colon = whole.iter().rposition(|byte| *byte == b':')?;
+    Some(&whole[colon + 1..])
 }
 
-// One byte of the list, a colon, the end of a line, a space or a digit. The answer is how many bytes
-// the file has then.
-fn step(file: &mut [u8], len: usize, byte: u8) -> usize {
-    match byte {
-        b':' => 0,
-        b'\n' => NONE,
-        b' ' => byte_more(file, len),
-        _ => digit(file, len, byte),
-    }
+// The bytes of a file, each from the word behind a space. Where there are more spaces, the last byte has all that
+// is left of the line for its word.
+fn bytes(alloc: Global, words: &[u8]) -> Result<Vec<u8>, AllocError> {
+    words
+        .splitn(FILE_BYTES + 1, |byte| *byte == b' ')
+        .skip(1)
+        .map(byte)
+        .collect(alloc)
 }
 
-// The file has one byte more, where there is room.
-fn byte_more(file: &mut [u8], len: usize) -> usize {
-    if len < file.len() {
-        file[len] = 0;
-        return len + 1;
-    }
-    len
+// The byte that a word tells in decimal, modulo 256. Spaces in it are passed over.
+// Kept: `parse` refuses an empty word, a number above 255, a space and a letter; here each gives some byte.
+fn byte(word: &[u8]) -> u8 {
+    word.iter()
+        .filter(|code| **code != b' ')
+        .fold(0, with_digit)
 }
 
-// The last byte of the file has one digit more.
-fn digit(file: &mut [u8], len: usize, code: u8) -> usize {
-    if len < 1 {
-        return len;
-    }
-    let last = len - 1;
-    if last < file.len() {
-        file[last] = appended(file[last], code);
-    }
-    len
-}
-
-// A number below 256 with one digit more, which is given by its ASCII code, 48 to 57.
-fn appended(number: u8, code: u8) -> u8 {
-    ((number as u32 * 10 + code as u32 + 208) % 256) as u8
+// A number with one digit more, modulo 256. Every character is a digit, by its code's distance from that of 0.
+fn with_digit(number: u8, code: &u8) -> u8 {
+    number
+        .wrapping_mul(10)
+        .wrapping_add(code.wrapping_sub(b'0'))
 }

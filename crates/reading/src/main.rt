@@ -16,7 +16,9 @@ mod line;
 mod list;
 mod long;
 
-fn main() {
-    list::all();
-    long::all();
+use std::io;
+
+fn main(rt: HostRuntime) -> io::Result<()> {
+    list::all(&rt)?;
+    long::all(&rt)
 }

@@ -1,16 +1,18 @@
 -- Laws of a reply in words: the parts of a refusal by number, how many bytes they have, and the words for a reply. Assumes nothing.
-use mathlib.Core.Path.{◌≡◌, sym}
+use mathlib.Core.Path.{◌≡◌}
 use mathlib.Core.Bool.{Bool, true, false, cond}
-use mathlib.Core.List.{List, [], ◌∷◌, ◌++◌}
+use mathlib.Core.List.{List, [], ◌++◌}
 use Prim.Native.Nat.{ℕ, ◌+◌, ◌-◌, ◌≤◌, ◌<◌}
+use native.Mathlib.Decide.{dec_lt}
 use native.Mathlib.Omega.{arith}
 use lib.Dec.{ltb, eqb}
-use lib.ListN.{length, get_or, take, drop, length-append, get_or-eq_default}
+use lib.ListN.{length, get_or, length-append}
 use borrow.Author.Tests.{lt-ltb, le-ltb, eq-eqb, ne_eqb}
+use Rattle.lists.specs.Lists.{Every}
 use Rattle.texts.specs.Bytes.{bytes_of, decimal, newline}
 use Rattle.texts.proofs.DigitLaws.{decimal-length}
 use Rattle.reasons.specs.Words.{faults, fault_of, around, place_of, words_of, unmet_of, reason_of}
-use Rattle.reasons.proofs.RowLaws.{joined, word-length, cut_at_lem, rises_at}
+use Rattle.reasons.proofs.RowLaws.{word-length, numbered, no_word}
 
 -- ---- the place
 
@@ -45,31 +47,21 @@ place-length number place = by_number (ltb number 13) (eqb number 14)
 
 -- ---- what is wrong
 
--- where the words for each number begin in a row, and where the last end
-abbrev starts : List ℕ
-starts = 0 ∷ 36 ∷ 78 ∷ 115 ∷ 198 ∷ 252 ∷ 267 ∷ 290 ∷ 324 ∷ 407 ∷ 459 ∷ 504 ∷ 504 ∷ 504 ∷ 504 ∷ 504 ∷ 504 ∷ 532 ∷ 570 ∷ 570 ∷ 570 ∷ 570 ∷ 570 ∷ 570 ∷ 570 ∷ 570 ∷ 570 ∷ 600 ∷ []
-
--- these places rise up to the end of the row
-pub starts_rise : (i : ℕ) → i < 27 → (get_or starts i 0 ≤ get_or starts (i + 1) 0) × (get_or starts (i + 1) 0 ≤ 600)
-starts_rise i lt = rises_at 600 starts i tt (omega arith)
-
 -- below 10 nothing is wrong
 pub fault_below : (number : ℕ) → number < 10 → fault_of number ≡ []
 unfolding fault_of
 fault_below number lt = simp (lt-ltb number 10 lt)
 
--- above 36 neither
-pub fault_above : (number : ℕ) → 36 < number → fault_of number ≡ []
-unfolding fault_of faults
-fault_above number lt = simp (le-ltb number 10 (omega arith)) (get_or-eq_default faults [] {n = number - 10} (omega arith))
+-- nor at any other number that has no words
+pub fault_other : (number : ℕ) → Every (λ n. number ≡ n → ⊥) (numbered 10 faults) → fault_of number ≡ []
+unfolding fault_of
+fault_other number other = by_size (dec_lt number 10)
+  where
+    by_size : Dec (number < 10) → fault_of number ≡ []
+    by_size (yes lt) = fault_below number lt
+    by_size (no ge) = simp (le-ltb number 10 (omega (arith, ge))) (no_word number 10 faults (number - 10) (omega (arith, ge)) other)
 
--- from 10 to 36 the words are cut out of the row
-pub fault-cut : (number : ℕ) → 10 ≤ number → number ≤ 36
-    → take (get_or starts (number - 10 + 1) 0 - get_or starts (number - 10) 0) (drop (get_or starts (number - 10) 0) (joined faults)) ≡ fault_of number
-unfolding fault_of faults bytes_of
-fault-cut number le ge = simp (le-ltb number 10 le) (sym (cut_at_lem (joined faults) starts (number - 10) (omega arith)))
-
--- the words have at most as many bytes as the row
+-- they have at most as many bytes as all words
 fault-length : (number : ℕ) → length (fault_of number) ≤ 600
 unfolding fault_of faults bytes_of
 fault-length number = by_number (ltb number 10)

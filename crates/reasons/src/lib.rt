@@ -10,99 +10,87 @@ ghost use Rattle.reasons.specs.Words.{around, fault_of, place_of, words_of, unme
 use searching::reply::Reply;
 use texts::Text;
 
-// What is wrong at 10 to 20, 26, 27 and 36, in turn, one behind the other. No reply has 21 to 25 or 28 to 35,
-// and nothing is said of these.
-const FAULTS: [u8; 600] = *b"\
-    the input is longer than 32768 bytes\
-    the answer buffer is shorter than 64 bytes\
-    the allowance is above 1000000 splits\
-    the input ends within a tag and length, or before the bytes that a length announces\
-    the input is empty, or its first tag is not 1 (header)\
-    a second header\
-    a tag that is not known\
-    a length that is wrong for the tag\
-    a number of channels that is not 1 to 64, or a number of relays that is not 1 to 32\
-    a position that is 0 or above the number of channels\
-    a set with a value above the number of relays\
-    a starting set that is empty\
-    a second starting set for its position\
-    a position that is named twice";
-
-// Where each of 10 to 36 begins, and where the last ends.
-const STARTS: [usize; 28] = [
-    0, 36, 78, 115, 198, 252, 267, 290, 324, 407, 459, 504, 504, 504, 504, 504, 504, 532, 570, 570,
-    570, 570, 570, 570, 570, 570, 570, 600,
-];
+// What is wrong, by 01's number: 10 to 20, 26, 27 and 36. No reply has another, and nothing is said of
+// these.
+fn fault(number: u32) -> &'static [u8]
+    ensures { result.now ≡ fault_of number }
+{
+    match number {
+        10 => b"the input is longer than 32768 bytes",
+        11 => b"the answer buffer is shorter than 64 bytes",
+        12 => b"the allowance is above 1000000 splits",
+        13 =>
+            b"the input ends within a tag and length, or before the bytes that a length announces",
+        14 => b"the input is empty, or its first tag is not 1 (header)",
+        15 => b"a second header",
+        16 => b"a tag that is not known",
+        17 => b"a length that is wrong for the tag",
+        18 =>
+            b"a number of channels that is not 1 to 64, or a number of relays that is not 1 to 32",
+        19 => b"a position that is 0 or above the number of channels",
+        20 => b"a set with a value above the number of relays",
+        26 => b"a starting set that is empty",
+        27 => b"a second starting set for its position",
+        36 => b"a position that is named twice",
+        _ => b"",
+    }
+}
 
 // A place with words around it more.
-fn around(text: Text, front: &[u8], place: usize, back: &[u8]) -> Text
-    ensures { Grows text (around front.now place back.now) result }
+fn around(text: &mut Text, front: &[u8], place: usize, back: &[u8])
+    ensures { Grows text.old (around front.now place back.now) text.new }
 {
-    text.word(front).number(place as u64).word(back)
+    text.word(front);
+    text.number(place as u64);
+    text.word(back);
 }
 
 // The place of a refusal more, where it is a field's.
-fn placed(text: Text, number: u32, place: usize) -> Text
-    ensures { Grows text (place_of number place) result }
+fn placed(text: &mut Text, number: u32, place: usize)
+    ensures { Grows text.old (place_of number place) text.new }
 {
-    if number < 13 {
-        return text;
+    if 13 <= number && number != 14 {
+        around(text, b"field at byte ", place, b": ");
     }
-    if number == 14 {
-        return text;
-    }
-    around(text, b"field at byte ", place, b": ")
-}
-
-// What is wrong more, by 01's number.
-fn fault(text: Text, number: u32) -> Text
-    ensures { Grows text (fault_of number) result }
-{
-    if number < 10 {
-        return text;
-    }
-    if 36 < number {
-        return text;
-    }
-    let at = (number - 10) as usize;
-    let from = STARTS[at];
-    let to = STARTS[at + 1];
-    let faults = FAULTS;
-    text.word(&faults[from..to])
 }
 
 // The line of a refusal in words.
 fn words(number: u32, place: usize) -> Text
     ensures { result ≡ line_of (words_of number place) }
 {
-    fault(placed(Text::new(), number, place), number).byte(10)
+    let mut line = Text::new();
+    placed(&mut line, number, place);
+    line.word(fault(number));
+    line.byte(b'\n');
+    line
 }
 
 // The line of a NONE in words: which field cannot be met; no text where it has no place.
 fn unmet(place: usize) -> Text
     ensures { result ≡ line_of (unmet_of place) }
 {
-    if place == 0 {
-        return Text::new();
+    let mut line = Text::new();
+    if place != 0 {
+        around(
+            &mut line,
+            b"the field at byte ",
+            place,
+            b" cannot be met by what the rules leave open\n",
+        );
     }
-    around(
-        Text::new(),
-        b"the field at byte ",
-        place,
-        b" cannot be met by what the rules leave open\n",
-    )
+    line
 }
 
 // What is said of a reply with this number and place, as a line of words: why it refuses, or which field
 // cannot be met; no text where there is nothing to say.
+// Kept: the number and the place of a reply: `Reasoned` speaks of every two, and an enum of the refusals, or an
+// `Option` of a place, would ask more of callers.
 pub fn reason(number: u32, place: usize) -> Text
     ensures { Reasoned number place result }
 {
-    if number == Reply::NONE {
-        return unmet(place);
+    match number {
+        Reply::NONE => unmet(place),
+        10.. => words(number, place),
+        _ => Text::new(),
     }
-    if number < 10 {
-        return Text::new();
-    }
-    words(number, place)
 }

@@ -1,10 +1,13 @@
 pub mod AtMostExamples
 pub mod ByteLaws
 pub mod ContentLaws
+pub mod EachLaws
 pub mod FaultlessLaws
 pub mod FieldByField
 pub mod FieldsStand
+pub mod FrameLaws
 pub mod NamedLaws
 pub mod RefusalLaws
+pub mod TakenLaws
 pub mod WalkLaws
 pub mod StartExamples

@@ -9,3 +9,5 @@ pub mod Promise
 pub mod Contents
 pub mod Sound
 pub mod Walk
+pub mod Each
+pub mod Fault

@@ -1,11 +1,14 @@
 // What the bytes of one field say: its tag, its length, its atoms, its set and its positions.
 // The contracts cite specs/Promise.antt, which goes by specs/Reading.antt.
-ghost use Rattle.std.specs.Prelude.{◌≡◌, ◌+◌, ◌≤◌, ◌<◌, length};
-ghost use Rattle.rules.specs.Reading.{length_at};
+ghost use Rattle.std.specs.Prelude.{◌+◌, ◌≤◌, length};
 ghost use Rattle.rules.specs.Promise.{TagOf, SetAt, AtomAt, HeadAt};
 
+use sets::Room;
+
 // The kinds of field that a tag byte can announce.
-#[derive(Clone, Copy)]
+// Kept: an unknown tag as a kind beside the others, and no `Option`: `TagOf`, `LengthFits` and `ContentFault`
+// speak of every byte, and 01 has a refusal for a tag that is not known.
+#[derive(Clone, Copy, PartialEq, Eq, Debug)]
 pub enum Tag {
     Header,
     Clause,
@@ -16,49 +19,43 @@ pub enum Tag {
 }
 
 // A position and the set that its value may lie in.
-#[derive(Clone, Copy)]
+#[derive(Clone, Copy, PartialEq, Eq)]
 pub struct Atom {
     pub position: u32,
-    pub set: u32,
+    pub set: Room,
 }
 
 // The first three bytes of a field: its tag byte, and how many bytes of content follow.
-#[derive(Clone, Copy)]
+#[derive(Clone, Copy, PartialEq, Eq, Debug)]
 pub struct Head {
     pub tag: u8,
     pub length: usize,
 }
 
 // The decision over the tag byte. Tags 1 to 5 are known.
-pub fn tag_of(tag: u8) -> Tag
-    ensures { TagOf tag result }
-{
-    match tag {
-        1 => Tag::Header,
-        2 => Tag::Clause,
-        3 => Tag::Equality,
-        4 => Tag::Starting,
-        5 => Tag::AtMost,
-        0 | 6..=255 => Tag::Unknown,
+impl From<u8> for Tag {
+    ghost from_gives = { TagOf };
+
+    #[tactic(auto, unfolding(crate::specs::Reading::tag_of))]
+    fn from(tag: u8) -> Tag {
+        match tag {
+            1 => Tag::Header,
+            2 => Tag::Clause,
+            3 => Tag::Equality,
+            4 => Tag::Starting,
+            5 => Tag::AtMost,
+            0 | 6..=255 => Tag::Unknown,
+        }
     }
 }
 
-// The two bytes from `at` on as a number, high byte first.
-fn two_at(bytes: &[u8], at: usize) -> u32
-    requires { at + 2 ≤ length bytes.now }
-    ensures { (result ≡ length_at bytes.now at) × (result < 65536) }
-{
-    let high = bytes[at] as u32;
-    let low = bytes[at + 1] as u32;
-    high * 256 + low
-}
-
 // The four bytes from `at` on as a set, high byte first.
-pub fn set_at(bytes: &[u8], at: usize) -> u32
+pub fn set_at(bytes: &[u8], at: usize) -> Room
     requires { at + 4 ≤ length bytes.now }
     ensures { SetAt bytes.now at result }
 {
-    two_at(bytes, at) * 65536 + two_at(bytes, at + 2)
+    let four = [bytes[at], bytes[at + 1], bytes[at + 2], bytes[at + 3]];
+    Room::from(u32::from_be_bytes(four))
 }
 
 // The five bytes from `at` on as an atom: a position byte, then its set.
@@ -66,7 +63,7 @@ pub fn atom_at(bytes: &[u8], at: usize) -> Atom
     requires { at + 5 ≤ length bytes.now }
     ensures { AtomAt bytes.now at result }
 {
-    let position = bytes[at] as u32;
+    let position = u32::from(bytes[at]);
     let set = set_at(bytes, at + 1);
     Atom { position, set }
 }
@@ -77,6 +74,7 @@ pub fn head_at(bytes: &[u8], at: usize) -> Head
     ensures { HeadAt bytes.now at result }
 {
     let tag = bytes[at];
-    let length = two_at(bytes, at + 1) as usize;
+    let two = [bytes[at + 1], bytes[at + 2]];
+    let length = usize::from(u16::from_be_bytes(two));
     Head { tag, length }
 }

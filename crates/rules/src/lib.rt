@@ -2,4 +2,7 @@
 // contracts cite specs/Reading.antt (what the bytes say).
 #![tactic(auto)]
 
+pub mod atoms;
+pub mod fault;
 pub mod field;
+pub mod fields;

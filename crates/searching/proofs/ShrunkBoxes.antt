@@ -4,8 +4,10 @@ use mathlib.Core.List.{List}
 use Prim.Native.Nat.{ℕ, ◌≤◌}
 use native.Mathlib.Omega.{arith}
 use lib.Dec.{leb}
-use lib.ListN.{length, take, drop}
-use lib.Seq.{take_at, length-take-le}
+use lib.ListN.{length}
+use Rattle.std.proofs.lemmas.List.{length-replicate}
+use Rattle.std.specs.Prelude.{Result}
+use Rattle.rooms.specs.Held.{Held}
 use Rattle.rules.specs.Rules.{Field}
 use Rattle.rules.specs.Sound.{fields_in}
 use Rattle.steps.specs.Boxes.{open_values, Rooms}
@@ -17,7 +19,7 @@ use Rattle.steps.proofs.Looks.FittingRules.{FieldsFit, FitsBox}
 use Rattle.steps.proofs.Looks.ShrinkLaws.{shrunk-inside}
 use Rattle.steps.proofs.Search.Walk.{searched_equation}
 use Rattle.boxes.specs.declared.shrink.Shrunk.{Shrunk}
-use Rattle.boxes.specs.declared.shrink.Verdict.{Verdict}
+use Rattle.boxes.specs.declared.shrink.Dead.{Dead}
 use Rattle.boxes.specs.Rounds.{verdict_of, rooms_left}
 use Rattle.boxes.specs.Promise.{Shrinks}
 use Rattle.searching.specs.declared.reply.Reply.{Reply}
@@ -39,15 +41,15 @@ module _ (fields : List Field) (box : List ℕ) (full : Rooms box) where
       go (dead place) e = omega arith
       go (alive inner) e = let i = shrunk-inside fields box inner full e in open-inside inner box i.1 full i.0
 
-  -- the verdict and the first v of the rooms that are left say what shrinking a box of v rooms has found
-  found_of : {v : ℕ} → length box ≡ v → (rest : List ℕ) {verdict : Verdict} {rooms : List ℕ} → verdict ≡ verdict_of (shrunk fields box) → rooms ≡ rooms_left (shrunk fields box) rest
-      → found_by v verdict rooms ≡ shrunk fields box
+  -- the verdict and the rooms that are left say what shrinking them has found, and there are as many
+  found_of : (before : Held) → before.box ≡ box → {verdict : Result (Unit {0}) Dead} {rooms : Held} → verdict ≡ verdict_of (shrunk fields box) → rooms ≡ rooms_left (shrunk fields box) before
+      → (found_by verdict rooms ≡ shrunk fields box) × (length rooms.box ≡ length box)
   unfolding verdict_of rooms_left found_by
-  found_of {v} long rest told left = ap₂ (found_by v) told left ∙ go (shrunk fields box) refl
+  found_of before here told left = (ap₂ found_by told left ∙ (go (shrunk fields box) refl).0, ap (λ (h : Held). length h.box) left ∙ (go (shrunk fields box) refl).1)
     where
-      go : (l : Look) → shrunk fields box ≡ l → found_by v (verdict_of l) (rooms_left l rest) ≡ l
-      go (dead place) e = refl
-      go (alive inner) e = ap alive (take_at inner rest v (box-inside-length inner box (shrunk-inside fields box inner full e).0 ∙ long))
+      go : (l : Look) → shrunk fields box ≡ l → (found_by (verdict_of l) (rooms_left l before) ≡ l) × (length (rooms_left l before).box ≡ length box)
+      go (dead place) e = (refl, length-replicate (length before.box) 0 ∙ ap length here)
+      go (alive inner) e = (refl, box-inside-length inner box (shrunk-inside fields box inner full e).0)
 
   -- the search goes on from what was found as from the box
   pub searched-found : FitsBox fields box → {found : Look} → found ≡ shrunk fields box → (allowed s d : ℕ)
@@ -55,20 +57,26 @@ module _ (fields : List Field) (box : List ℕ) (full : Rooms box) where
   searched-found fits e allowed s d =
       ap (λ (l : Look). after_shrinking fields (leb allowed) l s d (searched fields allowed)) e ∙ sym (searched_equation fields box full fits allowed s d)
 
--- ---- the first v rooms of an array, shrunk by the code
+-- ---- the rooms of positions, shrunk by the code
 
-module _ (input : List ℕ) (v : ℕ) (rooms : List ℕ) (few : v ≤ length rooms) (full : Rooms (take v rooms)) {r : Shrunk} {left : List ℕ} (is : Shrinks input v rooms r left) where
+module _ (input : List ℕ) (rooms : Held) (full : Rooms rooms.box) {r : Shrunk} {left : Held} (is : Shrinks input rooms r left) where
+  both : (found_by r.verdict left ≡ shrunk (fields_in input) rooms.box) × (length left.box ≡ length rooms.box)
+  both = found_of (fields_in input) rooms.box full rooms refl (ap (λ (s : Shrunk). s.verdict) is.answer) is.rooms
+
   -- what was found of them
-  pub shrunk-found : found_by v r.verdict left ≡ shrunk (fields_in input) (take v rooms)
-  shrunk-found = found_of (fields_in input) (take v rooms) full (length-take-le v rooms few) (drop v rooms) (ap (λ (s : Shrunk). s.verdict) is.answer) is.rooms
+  pub shrunk-found : found_by r.verdict left ≡ shrunk (fields_in input) rooms.box
+  shrunk-found = both.0
 
-  -- it may be searched
-  pub was-shrunk : WasShrunk input v r.verdict left
-  was-shrunk = record { box = take v rooms; full = full; positions = length-take-le v rooms few; found = shrunk-found }
+  -- there are as many left
+  pub shrunk-length : length left.box ≡ length rooms.box
+  shrunk-length = both.1
 
-  -- and what a search of it gives, with its rounds, is the search that starts with these rooms
-  pub found_from : FieldsFit v (fields_in input) → (allowed : ℕ) {q s : Reply} {before after : List ℕ} → Searches input v allowed r.verdict left 0 0 before q after
-      → HasRounds q r.rounds s → SearchesFrom input v allowed rooms before s after
+  -- they may be searched
+  pub was-shrunk : WasShrunk input r.verdict left
+  was-shrunk = record { box = rooms.box; full = full; positions = sym shrunk-length; found = shrunk-found }
+
+  -- and what a search of them gives, with its rounds, is the search that starts with these rooms
+  pub found_from : FieldsFit (length rooms.box) (fields_in input) → (allowed : ℕ) {q s : Reply} {before after : List ℕ} → Searches input allowed r.verdict left 0 0 before q after
+      → HasRounds q r.rounds s → SearchesFrom input allowed rooms before s after
   found_from fits allowed found has =
-      let box_fits = subst (λ (k : ℕ). FieldsFit k (fields_in input)) (sym (length-take-le v rooms few)) fits in
-      rounds-answered (answers (sym (searched-found (fields_in input) (take v rooms) full box_fits shrunk-found allowed 0 0)) found) has (ap (λ (s : Shrunk). s.rounds) is.answer)
+      rounds-answered (answers (sym (searched-found (fields_in input) rooms.box full fits shrunk-found allowed 0 0)) found) has (ap (λ (s : Shrunk). s.rounds) is.answer)

@@ -3,7 +3,9 @@ use mathlib.Core.Path.{◌≡◌}
 use mathlib.Core.List.{List}
 use Prim.Native.Nat.{ℕ}
 use Rattle.sets.proofs.Unique.{one-result}
-use Rattle.boxes.specs.declared.shrink.Verdict.{Verdict}
+use Rattle.std.specs.Prelude.{Result}
+use Rattle.rooms.specs.Held.{Held}
+use Rattle.boxes.specs.declared.shrink.Dead.{Dead}
 use Rattle.searching.specs.declared.reply.Reply.{Reply}
 use Rattle.searching.proofs.AnsweredLaws.{answered_unique}
 use Rattle.searching.specs.Promise.{Ends, NoneAt, Refuses, HasRounds, Searches, SearchesFrom}
@@ -20,11 +22,11 @@ refused_unique number place p q = one-result p q
 pub with_rounds_unique : (given : Reply) (rounds : ℕ) {r s : Reply} → HasRounds given rounds r → HasRounds given rounds s → r ≡ s
 with_rounds_unique given rounds p q = one-result p q
 
-pub search_unique : (input : List ℕ) (v allowed : ℕ) (verdict : Verdict) (rooms : List ℕ) (splits dead_ends : ℕ) (before after after' : List ℕ) (r s : Reply)
-    → Searches input v allowed verdict rooms splits dead_ends before r after → Searches input v allowed verdict rooms splits dead_ends before s after'
+pub search_unique : (input : List ℕ) (allowed : ℕ) (verdict : Result (Unit {0}) Dead) (rooms : Held) (splits dead_ends : ℕ) (before after after' : List ℕ) (r s : Reply)
+    → Searches input allowed verdict rooms splits dead_ends before r after → Searches input allowed verdict rooms splits dead_ends before s after'
     → (r ≡ s) × (after ≡ after')
-search_unique input v allowed verdict rooms splits dead_ends before after after' r s p q = answered_unique p q
+search_unique input allowed verdict rooms splits dead_ends before after after' r s p q = answered_unique p q
 
-pub search-from_unique : (input : List ℕ) (v allowed : ℕ) (rooms before after after' : List ℕ) (r s : Reply)
-    → SearchesFrom input v allowed rooms before r after → SearchesFrom input v allowed rooms before s after' → (r ≡ s) × (after ≡ after')
-search-from_unique input v allowed rooms before after after' r s p q = answered_unique p q
+pub search-from_unique : (input : List ℕ) (allowed : ℕ) (rooms : Held) (before after after' : List ℕ) (r s : Reply)
+    → SearchesFrom input allowed rooms before r after → SearchesFrom input allowed rooms before s after' → (r ≡ s) × (after ≡ after')
+search-from_unique input allowed rooms before after after' r s p q = answered_unique p q

@@ -3,9 +3,12 @@
 ghost use Rattle.searching.specs.Promise.{Ends, NoneAt, Refuses, HasRounds};
 
 // A reply. The values of a plan are in the caller's buffer.
-#[derive(Clone, Copy)]
+#[derive(Clone, Copy, PartialEq, Eq, Debug)]
 pub struct Reply {
+    // Kept: 01's number of the reply. `oarloom_plan` of `linked` hands it to a program in C, the promise `Planned` of
+    // `planner` and its theorems speak of it, and what takes a reply takes every number.
     pub number: u32,
+    // Kept: 0 where there is none: `Planned` and its theorems speak of the place as a number.
     pub place: usize,
     pub splits: u64,
     pub dead_ends: u64,
@@ -64,12 +67,6 @@ impl Reply {
     pub fn with_rounds(self, rounds: u64) -> Reply
         ensures { HasRounds self rounds result }
     {
-        Reply {
-            number: self.number,
-            place: self.place,
-            splits: self.splits,
-            dead_ends: self.dead_ends,
-            rounds,
-        }
+        Reply { rounds, ..self }
     }
 }

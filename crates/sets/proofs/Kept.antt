@@ -5,11 +5,12 @@ use mathlib.Core.Bool.{Bool}
 use Prim.Native.Nat.{ℕ, ◌^◌, ◌<◌}
 use lib.Bits.{or_comm, and_comm}
 use lib.Dec.{T}
-use Rattle.sets.specs.Sets.{IsMember, full, single, union, common, inside, complement, count, smallest, others}
-use Rattle.sets.specs.Promise.{Full, Single, Union, Common, Inside, Complement, Count, Smallest, Others}
-use Rattle.sets.proofs.Members.{member-full, member-single, member_union, member-common, member-complement}
-use Rattle.sets.proofs.Sameness.{inside_iff, no-member_empty}
+use Rattle.sets.specs.Sets.{IsMember, full, single, union, common, inside, is_empty, meets, complement, count, smallest, others}
+use Rattle.sets.specs.Promise.{Full, Single, Union, Common, Inside, Empty, Meets, Complement, Count, Smallest, Others}
+use Rattle.sets.proofs.Members.{member_empty, member-full, member-single, member_union, member-common, member-complement}
+use Rattle.sets.proofs.Sameness.{common_below, inside_iff, no-member_empty, empty_test}
 use Rattle.sets.proofs.Counting.{count-how_many}
+use Rattle.sets.proofs.Outside.{meets_shared}
 use Rattle.sets.proofs.Smallest.{smallest-least, smallest_of_empty, others_smaller}
 
 -- what is known of the members of a set is known of an equal set
@@ -40,6 +41,15 @@ common_symmetric {a} {b} u = common-kept (u.result ∙ and_comm b a)
 
 pub inside-kept : {a b : ℕ} {r : Bool} → r ≡ inside a b → Inside a b r
 inside-kept {a} {b} e = record { result = e; members = subst (λ t. T t ↔ ((x : ℕ) → IsMember x a → IsMember x b)) (sym e) (inside_iff a b) }
+
+pub empty-kept : {m : ℕ} {r : Bool} → r ≡ is_empty m → Empty m r
+empty-kept {m} e = record { result = e; members = subst (λ t. T t ↔ ((x : ℕ) → IsMember x m → ⊥)) (sym e) (none, λ h. (empty_test m).1 (no-member_empty m h)) }
+  where
+    none : T (is_empty m) → (x : ℕ) → IsMember x m → ⊥
+    none t x u = member_empty x (subst (IsMember x) ((empty_test m).0 t) u)
+
+pub meets-kept : {a b : ℕ} {r : Bool} → a < 2 ^ 32 → r ≡ meets a b → Meets a b r
+meets-kept {a} {b} h e = record { result = e; members = subst (λ t. T t ↔ ((x : ℕ) × IsMember x a × IsMember x b)) (sym e) (meets_shared a b (common_below a b h)) }
 
 pub complement-kept : {n m r : ℕ} → r ≡ complement n m → Complement n m r
 complement-kept {n} {m} e = record { result = e; members = members_of e (member-complement n m) }

@@ -15,7 +15,7 @@ use Rattle.sets.specs.Sets.{IsMember, single, common, complement, inside, listed
 use Rattle.sets.proofs.Digits.{half_below}
 use Rattle.sets.proofs.Members.{member_range, member_empty, member-single}
 use Rattle.sets.proofs.Sameness.{single_below, inside_iff}
-use Rattle.sets.proofs.Values.{values_step, member_of_listed, listed_of-member, values-rising, rising_above}
+use Rattle.sets.proofs.Values.{values_step, member_of_listed, listed_of-member, values-rising, rising_above, values-most}
 use Rattle.sets.proofs.Counting.{beside_below, member-beside, count-not_empty, count_of-single, count_zero, count_positive, count_falls, count_part}
 
 two_pos : zero < 2
@@ -63,6 +63,14 @@ first-there (x ∷ xs) ne = Memᴰ.head refl
 smallest-there : (m : ℕ) → (smallest m ≡ 0 → ⊥) → Memᴰ (smallest m) (values m)
 unfolding smallest
 smallest-there m = first-there (values m)
+
+-- it is at most 32, whatever the number
+pub smallest_most : (m : ℕ) → smallest m ≤ 32
+smallest_most m = go (ℕ_discrete (smallest m) 0)
+  where
+    go : Dec (smallest m ≡ 0) → smallest m ≤ 32
+    go (yes e) = omega arith
+    go (no ne) = values-most m (smallest m) (smallest-there m ne)
 
 -- a set that is not empty holds its smallest value
 pub smallest-member : (m : ℕ) → m < 2 ^ 32 → (m ≡ 0 → ⊥) → IsMember (smallest m) m

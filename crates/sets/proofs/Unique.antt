@@ -2,7 +2,7 @@
 use mathlib.Core.Path.{◌≡◌, sym, ◌∙◌}
 use mathlib.Core.Bool.{Bool}
 use Prim.Native.Nat.{ℕ}
-use Rattle.sets.specs.Promise.{Full, Single, Union, Common, Inside, Complement, Count, Smallest, Others, Marked, Marks}
+use Rattle.sets.specs.Promise.{Full, Single, Union, Common, Inside, Empty, Meets, Complement, Count, Smallest, Others, Marked, Marks}
 
 -- a promise that names its result allows one result
 pub one-result {ℓ} : {A : Type ℓ} {e r s : A} → r ≡ e → s ≡ e → r ≡ s
@@ -22,6 +22,12 @@ common_unique p q = one-result p.result q.result
 
 pub inside_unique : {a b : ℕ} {r s : Bool} → Inside a b r → Inside a b s → r ≡ s
 inside_unique p q = one-result p.result q.result
+
+pub empty_unique : {m : ℕ} {r s : Bool} → Empty m r → Empty m s → r ≡ s
+empty_unique p q = one-result p.result q.result
+
+pub meets_unique : {a b : ℕ} {r s : Bool} → Meets a b r → Meets a b s → r ≡ s
+meets_unique p q = one-result p.result q.result
 
 pub complement_unique : {n m r s : ℕ} → Complement n m r → Complement n m s → r ≡ s
 complement_unique p q = one-result p.result q.result

@@ -55,6 +55,19 @@ listed_forth (suc k) x m y t =
     later : (j : ℕ) × (y ≡ suc x + j) × (digit j (m / 2) ≡ 1) → (j : ℕ) × (y ≡ x + j) × (digit j m ≡ 1)
     later (j, e, d) = (suc j, e ∙ suc-add x j ∙ sym (add-suc x j), d)
 
+-- k values from x on lie below x + k, whatever the number
+listed_below : (k x m y : ℕ) → Memᴰ y (values_from k x m) → y < x + k
+unfolding values_from digit
+listed_below zero x m y t = absurd (Memᴰ.not-nil t)
+listed_below (suc k) x m y t =
+    ⊎_elim (λ (h : (m % 2 ≡ 1) × (y ≡ x)). omega (arith, h.1)) (λ (u : Memᴰ y (values_from k (suc x) (m / 2))). let h = listed_below k (suc x) (m / 2) y u in omega arith)
+    (listed_if_lem (m % 2) x (values_from k (suc x) (m / 2)) (digit_small zero m) (subst (λ (l : List ℕ). Memᴰ y l) (values_step k x m) t))
+
+-- so all values are at most 32
+pub values-most : (m y : ℕ) → Memᴰ y (values m) → y ≤ 32
+unfolding values
+values-most m y t = let h = listed_below 32 1 m y t in omega arith
+
 listed_back : (k x m j : ℕ) → j < k → digit j m ≡ 1 → Memᴰ (x + j) (values_from k x m)
 unfolding digit
 listed_back zero x m j h d = absurd (not-suc-le-zero h)

@@ -1,7 +1,7 @@
 -- What each function of `src/` promises. `result` says which number comes back, for every input; the other fields say what it means, by
 -- `IsMember` alone. Assumes nothing.
 use Rattle.std.specs.Prelude.{ℕ, zero, suc, ◌+◌, ◌≤◌, ◌<◌, ◌≡◌, ◌↔◌, ◌⊎◌, Bool, true, false, T}
-use Rattle.sets.specs.Sets.{is_member, IsMember, full, single, union, common, inside, complement, count, smallest, others}
+use Rattle.sets.specs.Sets.{is_member, IsMember, full, single, union, common, inside, is_empty, meets, complement, count, smallest, others}
 use Rattle.sets.specs.Marks.{is_marked, with_mark}
 
 -- r is the set {1..n}, or empty where n is above 32
@@ -28,6 +28,16 @@ pub record Common (a b r : ℕ) : Type 0 where
 pub record Inside (a b : ℕ) (r : Bool) : Type 0 where
   pub result : r ≡ inside a b
   pub members : T r ↔ ((x : ℕ) → IsMember x a → IsMember x b)
+
+-- r says whether m has no value
+pub record Empty (m : ℕ) (r : Bool) : Type 0 where
+  pub result : r ≡ is_empty m
+  pub members : T r ↔ ((x : ℕ) → IsMember x m → ⊥)
+
+-- r says whether some value is in both sets
+pub record Meets (a b : ℕ) (r : Bool) : Type 0 where
+  pub result : r ≡ meets a b
+  pub members : T r ↔ ((x : ℕ) × IsMember x a × IsMember x b)
 
 -- r has the values of {1..n} that are not in m, and none where n is above 32
 pub record Complement (n m r : ℕ) : Type 0 where

@@ -1,47 +1,103 @@
 // One call of the planner, and what was seen of it.
 ghost use Rattle.std.specs.Prelude.{◌≤◌};
 
-use super::buffer::BLANK;
-use super::tally::{DEAD_ENDS, PLACES, ROUNDS, SPLITS, Seen, Tally, add, append};
+use super::buffer::Buffer;
+use super::tally::Tally;
 use planner::plan::plan;
 use searching::reply::Reply;
+use std::alloc::AllocError;
+use std::fmt;
 
-// Calls the planner with an answer buffer of a length and an allowance, and counts the reply, which is
-// then the one that was seen last. The program has its replies from nowhere else, so that none is left
-// out.
-pub(crate) fn ask(tally: Tally, file: &[u8], length: usize, allowance: u64) -> Tally
-    requires { length ≤ 68 }
-{
-    let mut bytes = [BLANK; 68];
-    let reply = plan(file, &mut bytes[..length], allowance);
-    count(tally, seen_as(reply, bytes))
+// What a reply is, in the order of 01's numbers.
+#[derive(Clone, Copy, PartialEq, Eq, PartialOrd, Ord)]
+pub enum Verdict {
+    Plan,
+    NoPlan,
+    Undecided,
+    // Kept: a number, as the documents have it: the program shares nothing with the planner but the bytes.
+    Refused(u32),
 }
 
-// Counts a reply: its number, the sums, and all five numbers in the checksum.
-fn count(before: Tally, seen: Seen) -> Tally {
-    let place = seen.place as u64;
-    let counts = before.counts;
-    let mut tally = Tally { counts, seen };
-    tally = add(tally, seen.number, 1);
-    tally = add(tally, SPLITS, seen.splits);
-    tally = add(tally, DEAD_ENDS, seen.dead_ends);
-    tally = add(tally, PLACES, place);
-    tally = add(tally, ROUNDS, seen.rounds);
-    tally = append(tally, seen.number as u64);
-    tally = append(tally, place);
-    tally = append(tally, seen.splits);
-    tally = append(tally, seen.dead_ends);
-    append(tally, seen.rounds)
+impl From<u32> for Verdict {
+    fn from(number: u32) -> Verdict {
+        match number {
+            Reply::PLAN => Verdict::Plan,
+            Reply::NONE => Verdict::NoPlan,
+            Reply::UNDECIDED => Verdict::Undecided,
+            number => Verdict::Refused(number),
+        }
+    }
 }
 
-// A reply as numbers.
-fn seen_as(reply: Reply, bytes: [u8; 68]) -> Seen {
-    Seen {
-        number: reply.number as usize,
-        place: reply.place,
-        splits: reply.splits,
-        dead_ends: reply.dead_ends,
-        rounds: reply.rounds,
-        bytes,
+impl fmt::Display for Verdict {
+    fn fmt<W: fmt::Write>(&self, f: &mut fmt::Formatter<W>) -> fmt::Result {
+        match self {
+            Verdict::Plan => write!(f, "PLAN"),
+            Verdict::NoPlan => write!(f, "NONE"),
+            Verdict::Undecided => write!(f, "UNDECIDED"),
+            Verdict::Refused(number) => write!(f, "refused, {number}:"),
+        }
+    }
+}
+
+// What a call is given beside the file: how many bytes of the buffer it is lent, and how many splits it may make.
+#[derive(Clone, Copy)]
+pub struct Given {
+    pub length: usize,
+    pub allowance: u64,
+    ghost in_buffer: { length ≤ 68 },
+}
+
+impl Given {
+    // The shortest buffer that is long enough, and an allowance.
+    pub(crate) fn usual(allowance: u64) -> Given {
+        Given {
+            length: 64,
+            allowance,
+        }
+    }
+}
+
+// A reply, and the bytes after the call.
+#[derive(Clone, Copy, PartialEq, Eq)]
+pub struct Seen {
+    pub verdict: Verdict,
+    pub place: usize,
+    pub splits: u64,
+    pub dead_ends: u64,
+    pub rounds: u64,
+    pub left: Buffer,
+}
+
+impl Seen {
+    // A refusal at a place, with nothing counted and nothing written.
+    pub(crate) fn refused(number: u32, place: usize) -> Seen {
+        Seen {
+            verdict: Verdict::Refused(number),
+            place,
+            splits: 0,
+            dead_ends: 0,
+            rounds: 0,
+            left: Buffer::BLANK,
+        }
+    }
+}
+
+impl Tally {
+    // Calls the planner and counts the reply. The program has its replies from nowhere else, so that none is
+    // left out.
+    pub(crate) fn ask(&mut self, file: &[u8], given: Given) -> Result<Seen, AllocError> {
+        let mut left = Buffer::BLANK;
+        let reply = plan(file, &mut left.0[..given.length], given.allowance);
+        let verdict = Verdict::from(reply.number);
+        self.count(verdict, &reply)?;
+        Ok(Seen {
+            verdict,
+            place: reply.place,
+            splits: reply.splits,
+            dead_ends: reply.dead_ends,
+            rounds: reply.rounds,
+            left,
+        })
     }
 }

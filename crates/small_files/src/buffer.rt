@@ -2,59 +2,68 @@
 //
 // An assignment has the same form, so that it can be compared with what a plan leaves: the values of
 // positions 1 to v, and blanks behind them.
-ghost use Rattle.std.specs.Prelude.{◌<◌};
-
-use super::starting::has;
+use super::values::Values;
 
 // What stands in every byte before a call. It is no value of a plan.
-pub const BLANK: u8 = 238;
+const BLANK: u8 = 238;
 
-// The bytes as they are before a call.
-pub(crate) fn blank() -> [u8; 68] {
-    [BLANK; 68]
-}
+#[derive(Clone, Copy, PartialEq, Eq)]
+pub struct Buffer(pub [u8; 68]);
 
-// Whether the bytes are an assignment inside the starting sets: a starting value for each position that has
-// any, which are positions 1 to v, and blanks behind them.
-pub(crate) fn is_assignment(bytes: &[u8; 68], sets: &[usize; 64]) -> bool {
-    let mut i = 0;
-    while i < 68 {
-        if !fits(bytes[i], set_at(sets, i)) {
-            return false;
+impl Buffer {
+    // The bytes as they are before a call.
+    pub const BLANK: Buffer = Buffer([BLANK; 68]);
+
+    // The first assignment in dictionary order: the smallest starting value for positions 1 to v.
+    pub(crate) fn lowest(starts: &[Values]) -> Buffer {
+        let mut lowest = Buffer::BLANK;
+        for (value, start) in lowest.0.iter_mut().zip(starts) {
+            *value = start.above(0).unwrap_or(0);
         }
-        i += 1;
+        lowest
     }
-    true
-}
 
-// The starting set at an index, and the empty set where there is none.
-fn set_at(sets: &[usize; 64], i: usize) -> usize {
-    if i < 64 { sets[i] } else { 0 }
-}
-
-// Whether a byte fits: a value of a set, or a blank where that is empty.
-fn fits(byte: u8, set: usize) -> bool {
-    if set == 0 {
-        return byte == BLANK;
-    }
-    has(set, wide(byte))
-}
-
-// Whether all bytes are the same.
-pub(crate) fn same(a: &[u8; 68], b: &[u8; 68]) -> bool {
-    let mut i = 0;
-    while i < 68 {
-        if a[i] != b[i] {
-            return false;
+    // The next assignment in dictionary order, as a counter has it: the last position is the fastest.
+    pub(crate) fn next(self, starts: &[Values]) -> Option<Buffer> {
+        let mut next = self;
+        for (value, start) in next.0.iter_mut().zip(starts).rev() {
+            if let Some(above) = start.above(*value) {
+                *value = above;
+                return Some(next);
+            }
+            *value = start.above(0).unwrap_or(0);
         }
-        i += 1;
+        None
     }
-    true
-}
 
-// A byte as a number.
-pub(crate) fn wide(byte: u8) -> usize
-    ensures { result < 256 }
-{
-    byte as usize
+    // The value of a position, where there is such a position.
+    pub(crate) fn value_of(&self, position: u8) -> Option<u8> {
+        let place = usize::from(position).checked_sub(1)?;
+        self.0.get(place).copied()
+    }
+
+    // Whether there is a position, with its value in a set.
+    pub(crate) fn has_inside(&self, position: u8, values: Values) -> bool {
+        self.value_of(position)
+            .is_some_and(|value| values.has(value))
+    }
+
+    // Whether the bytes are an assignment inside the starting sets: a starting value for each of positions 1
+    // to v, and blanks behind them.
+    pub(crate) fn is_assignment(&self, starts: &[Values]) -> bool {
+        let inside = self
+            .0
+            .iter()
+            .zip(starts)
+            .all(|(value, start)| start.has(*value));
+        inside && self.0.iter().skip(starts.len()).all(|byte| *byte == BLANK)
+    }
+
+    // Whether no position has a higher value than in another assignment.
+    pub(crate) fn is_nowhere_higher(&self, other: &Buffer) -> bool {
+        self.0
+            .iter()
+            .zip(&other.0)
+            .all(|(value, other)| value <= other)
+    }
 }

@@ -1,85 +1,73 @@
-// Writing rule files, byte by byte from 01's section "The rule file" and 02's R-6 and R-12.
-//
-// A file stands at the front of some bytes. Each function writes at a place and answers the place
-// behind what it wrote, which is never behind the last byte. What does not fit is left out: such a
-// file is not sound any more, and is then reported as a difference.
-ghost use Rattle.std.specs.Prelude.{◌≤◌, length};
+// Writing rule files, from 01's section "The rule file" and 02's R-6 and R-12.
+use super::values::Values;
+use std::alloc::{AllocError, Global};
 
-// Writes a byte.
-pub(crate) fn put(file: &mut [u8], at: usize, byte: usize) -> usize
-    ensures { result ≤ length file.old }
-{
-    if at < file.len() {
-        file[at] = (byte % 256) as u8;
-        return at + 1;
-    }
-    file.len()
+// The kinds of fields, each with what stands before the items that it repeats: the set of an equality, and the
+// count and the set of an at-most rule.
+#[derive(Clone, Copy)]
+pub enum Kind {
+    Clause,
+    Equality(Values),
+    Start,
+    AtMost(u8, Values),
 }
 
-// Writes a header at the front.
-pub(crate) fn header(file: &mut [u8], v: usize, n: usize) -> usize
-    ensures { result ≤ length file.old }
-{
-    let at = put(file, 0, 1);
-    let at = put(file, at, 0);
-    let at = put(file, at, 2);
-    let at = put(file, at, v);
-    put(file, at, n)
-}
-
-// Writes the length of the field between two places into its head.
-pub(crate) fn close(file: &mut [u8], from: usize, to: usize) {
-    if to < 3 {
-        return;
-    }
-    if from <= to - 3 {
-        let length = to - 3 - from;
-        put(file, from + 1, length / 256);
-        put(file, from + 2, length);
+impl Kind {
+    // The tag.
+    fn tag(self) -> u8 {
+        match self {
+            Kind::Clause => 2,
+            Kind::Equality(_) => 3,
+            Kind::Start => 4,
+            Kind::AtMost(..) => 5,
+        }
     }
 }
 
-// Writes a set as four bytes, high byte first.
-fn set(file: &mut [u8], at: usize, set: usize) -> usize
-    ensures { result ≤ length file.old }
-{
-    let at = put(file, at, set / 16777216);
-    let at = put(file, at, set / 65536);
-    let at = put(file, at, set / 256);
-    put(file, at, set)
+// A field as it is written: its kind and its content.
+#[derive(Drop)]
+pub struct Written {
+    kind: Kind,
+    content: Vec<u8>,
 }
 
-// Writes the start of a field: its tag, two bytes for its length, the count of an at-most rule, and its set
-// or that of an equality.
-pub(crate) fn start(file: &mut [u8], at: usize, tag: usize, count: usize, values: usize) -> usize
-    ensures { result ≤ length file.old }
-{
-    let at = put(file, at, tag);
-    let at = put(file, at, 0);
-    let at = put(file, at, 0);
-    match tag {
-        3 => set(file, at, values),
-        5 => count_and_set(file, at, count, values),
-        _ => at,
+impl Written {
+    // The start of a field, with no item yet.
+    pub(crate) fn new(alloc: Global, kind: Kind) -> Result<Written, AllocError> {
+        let mut content = Vec::new(alloc);
+        match kind {
+            Kind::Clause | Kind::Start => {}
+            Kind::Equality(values) => content.extend_from_slice(&values.0.to_be_bytes())?,
+            Kind::AtMost(count, values) => {
+                content.push(count)?;
+                content.extend_from_slice(&values.0.to_be_bytes())?;
+            }
+        }
+        Ok(Written { kind, content })
+    }
+
+    // Adds a position, as an equality and an at-most rule repeat them.
+    pub(crate) fn add_position(&mut self, position: u8) -> Result<(), AllocError> {
+        self.content.push(position)?;
+        Ok(())
+    }
+
+    // Adds a position and its set, as a clause repeats them. A starting set is one such item.
+    pub(crate) fn add_atom(&mut self, position: u8, values: Values) -> Result<(), AllocError> {
+        self.content.push(position)?;
+        self.content.extend_from_slice(&values.0.to_be_bytes())
+    }
+
+    // Writes the field at the end of a file: its tag, two bytes for its length, and its content.
+    pub(crate) fn write(&self, file: &mut Vec<u8>) -> Result<(), AllocError> {
+        let length = self.content.len() % 65536;
+        let [high, low] = (length as u16).to_be_bytes();
+        file.extend_from_slice(&[self.kind.tag(), high, low])?;
+        file.extend_from_slice(&self.content)
     }
 }
 
-// Writes a count and a set.
-fn count_and_set(file: &mut [u8], at: usize, count: usize, values: usize) -> usize
-    ensures { result ≤ length file.old }
-{
-    let at = put(file, at, count);
-    set(file, at, values)
-}
-
-// Writes what a field repeats: a position, and the set behind it where the field is neither an equality nor an
-// at-most rule. A starting set is written as a field of one such item.
-pub(crate) fn item(file: &mut [u8], at: usize, tag: usize, position: usize, values: usize) -> usize
-    ensures { result ≤ length file.old }
-{
-    let at = put(file, at, position);
-    if tag == 3 || tag == 5 {
-        return at;
-    }
-    set(file, at, values)
+// A file with no fields yet.
+pub(crate) fn header(alloc: Global, v: u8, n: u8) -> Result<Vec<u8>, AllocError> {
+    [1, 0, 2, v, n].to_vec(alloc)
 }

@@ -1,3 +1,4 @@
+pub mod HeaderLaws
 pub mod CheckLaws
 pub mod CheckedLaws
 pub mod Unique

@@ -1,7 +1,7 @@
 -- Laws of the position that a field gives a starting set: what it is by the field's kind, `started_is`; the fault of a second one, `again_at`; and the positions seen with it, `seen_at`, `seen_still`. Assumes nothing.
 use mathlib.Core.Path.{◌≡◌, refl, sym, ap, ◌∙◌, subst}
 use mathlib.Core.List.{List}
-use Prim.Native.Nat.{ℕ, suc, ◌-◌, ◌≤◌}
+use Prim.Native.Nat.{ℕ, suc, ◌+◌, ◌-◌, ◌≤◌}
 use native.Mathlib.Omega.{arith}
 use lib.Dec.{T}
 use lib.ListN.{get_or, drop, length-drop}
@@ -12,12 +12,11 @@ use Rattle.lists.proofs.TestLaws.{test_same}
 use Rattle.rules.specs.declared.field.Tag.{Tag}
 use Rattle.rules.specs.declared.field.Tag.TheVariants.{Header, Clause, Equality, Starting, AtMost, Unknown}
 use Rattle.rules.specs.Rules.{Rule, clause, equality, starting, at_most}
-use Rattle.rules.specs.Reading.{fault_if, or_else, tag_of, head_of, content_of, atom_of, rule_of, length_fits, rule_fault, rule_at, field_fault, with_position, seen_with, again_fault, fault_after}
+use Rattle.rules.specs.Reading.{fault_if, tag_of, head_of, content_of, atom_of, rule_of, length_fits, rule_fault, rule_at, field_fault, with_position, seen_with, again_fault}
 use Rattle.rules.proofs.Reading.ByteLaws.{first-drop}
 use Rattle.rules.proofs.Reading.ContentLaws.{starting-length}
 use Rattle.rules.proofs.Reading.FaultlessLaws.{field_fault-none, starting_fault-none}
 use Rattle.sound.specs.Starts.{started_by, StartThere}
-use Rattle.contents.proofs.FaultLaws.{first_fault, later_fault}
 
 -- ---- a field without a fault
 
@@ -53,18 +52,11 @@ module _ (bytes : List ℕ) {kind : Tag} (is : kind ≡ tag_of (get_or bytes 0 0
 
 -- ---- the fault of a second one, and the positions seen
 
--- a position is marked exactly where it was seen
-marked-seen : (p seen : ℕ) → (p ≡ 0 → ⊥) → is_marked (p - 1) seen ≡ is_member p seen
-marked-seen p seen some =
-    let up : suc (p - 1) ≡ p = omega arith in
-    let same = marked-exactly (p - 1) seen in
-    test_same (is_marked (p - 1) seen) (is_member p seen) (λ t. subst (λ (q : ℕ). T (is_member q seen)) up (same.0 t)) (λ t. same.1 (subst (λ (q : ℕ). T (is_member q seen)) (sym up) t))
-
-module _ (seen : ℕ) (rule : Rule) {p : ℕ} (is : p ≡ started_by rule) where
+module _ (seen : ℕ) (rule : Rule) where
   -- a rule that gives no position a starting set is no second one
-  pub again-none : p ≡ 0 → 0 ≡ again_fault seen rule
+  pub again-none : started_by rule ≡ 0 → 0 ≡ again_fault seen rule
   unfolding started_by again_fault is_member
-  again-none e = go rule (sym is ∙ e)
+  again-none = go rule
     where
       go : (r : Rule) → started_by r ≡ 0 → 0 ≡ again_fault seen r
       go (clause atoms) none = refl
@@ -72,27 +64,35 @@ module _ (seen : ℕ) (rule : Rule) {p : ℕ} (is : p ≡ started_by rule) where
       go (starting a) none = sym (ap (λ (q : ℕ). fault_if (is_member q seen) 27 (λ _. 0)) none)
       go (at_most k m ps) none = refl
 
-  -- one that does is, where its position is marked
-  pub again_at : (p ≡ 0 → ⊥) → again_fault seen rule ≡ fault_if (is_marked (p - 1) seen) 27 (λ _. 0)
-  unfolding started_by again_fault
-  again_at some = go rule is ∙ ap (λ b. fault_if b 27 (λ _. 0)) (sym (marked-seen p seen some))
-    where
-      go : (r : Rule) → p ≡ started_by r → again_fault seen r ≡ fault_if (is_member p seen) 27 (λ _. 0)
-      go (clause atoms) e = absurd (some e)
-      go (equality m ps) e = absurd (some e)
-      go (starting a) e = ap (λ (q : ℕ). fault_if (is_member q seen) 27 (λ _. 0)) (sym e)
-      go (at_most k m ps) e = absurd (some e)
+  module _ (p : ℕ) (is : p + 1 ≡ started_by rule) where
+    -- a position is marked at its index exactly where it was seen
+    marked-seen : (position : ℕ) → p + 1 ≡ position → is_marked p seen ≡ is_member position seen
+    marked-seen position e =
+        let up : suc p ≡ position = omega arith in
+        let same = marked-exactly p seen in
+        test_same (is_marked p seen) (is_member position seen) (λ t. subst (λ (q : ℕ). T (is_member q seen)) up (same.0 t)) (λ t. same.1 (subst (λ (q : ℕ). T (is_member q seen)) (sym up) t))
 
-  -- with it its position is seen
-  pub seen_at : (p ≡ 0 → ⊥) → with_mark (p - 1) seen ≡ seen_with rule seen
-  unfolding started_by seen_with with_position with_mark
-  seen_at some = go rule is
-    where
-      go : (r : Rule) → p ≡ started_by r → with_mark (p - 1) seen ≡ seen_with r seen
-      go (clause atoms) e = absurd (some e)
-      go (equality m ps) e = absurd (some e)
-      go (starting a) e = ap (λ (q : ℕ). with_mark (q - 1) seen) e
-      go (at_most k m ps) e = absurd (some e)
+    -- one that gives a position one is, where that is marked
+    pub again_at : again_fault seen rule ≡ fault_if (is_marked p seen) 27 (λ _. 0)
+    unfolding started_by again_fault
+    again_at = go rule is
+      where
+        go : (r : Rule) → p + 1 ≡ started_by r → again_fault seen r ≡ fault_if (is_marked p seen) 27 (λ _. 0)
+        go (clause atoms) e = absurd (omega arith)
+        go (equality m ps) e = absurd (omega arith)
+        go (starting a) e = ap (λ b. fault_if b 27 (λ _. 0)) (sym (marked-seen a.position e))
+        go (at_most k m ps) e = absurd (omega arith)
+
+    -- with it its position is seen
+    pub seen_at : with_mark p seen ≡ seen_with rule seen
+    unfolding started_by seen_with with_position with_mark
+    seen_at = go rule is
+      where
+        go : (r : Rule) → p + 1 ≡ started_by r → with_mark p seen ≡ seen_with r seen
+        go (clause atoms) e = absurd (omega arith)
+        go (equality m ps) e = absurd (omega arith)
+        go (starting a) e = let index : p ≡ a.position - 1 = omega arith in ap (λ (q : ℕ). with_mark q seen) index
+        go (at_most k m ps) e = absurd (omega arith)
 
 -- a field that gives no position a starting set leaves the positions seen
 pub seen_still : (bytes : List ℕ) (seen : ℕ) → StartThere bytes → started_by (rule_at bytes) ≡ 0 → seen ≡ seen_with (rule_at bytes) seen
@@ -109,16 +109,3 @@ seen_still bytes seen there none = go (tag_of (head_of bytes).tag) refl
     go Starting e = absurd (omega (arith, there.position e, started_is bytes (sym e) refl, none))
     go AtMost e = other e refl
     go Unknown e = other e refl
-
--- ---- the first fault of a field behind others
-
-module _ (v n seen : ℕ) (bytes : List ℕ) {fault : ℕ} (is : fault ≡ field_fault v n bytes) where
-  -- its own, where it has one
-  pub own_fault : (fault ≡ 0 → ⊥) → fault ≡ fault_after v n seen bytes
-  unfolding fault_after
-  own_fault = first_fault fault (again_fault seen (rule_at bytes)) (ap (λ (f : ℕ). or_else f (again_fault seen (rule_at bytes))) (sym is))
-
-  -- else that of a second starting set
-  pub again-after : fault ≡ 0 → fault_after v n seen bytes ≡ again_fault seen (rule_at bytes)
-  unfolding fault_after
-  again-after = later_fault fault (again_fault seen (rule_at bytes)) (ap (λ (f : ℕ). or_else f (again_fault seen (rule_at bytes))) (sym is))

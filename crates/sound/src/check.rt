@@ -1,157 +1,156 @@
-// Whether the bytes are a sound file: walks the fields, and refuses at the first fault with 01's
-// number and the field's place. The contracts cite Reading.antt of `rules`, specs/Checked.antt and
-// specs/Promise.antt.
-ghost use Rattle.std.specs.Prelude.{◌≡◌, ◌≤◌, length, drop};
-ghost use Rattle.rules.specs.Reading.{tag_fault, body_fault, field_fault, fault_after, header_body_fault, header_fault, read_fields};
-ghost use Rattle.sound.specs.Checked.{checked_of};
+// Whether the bytes are a sound file: walks the fields, and refuses at the first fault with the field's
+// place. The contracts cite Reading.antt of `rules`, specs/Checked.antt and specs/Promise.antt.
+ghost use Rattle.std.specs.Prelude.{◌≡◌, ◌≤◌, length, drop, Ok, Err, MatchResult, IfOk};
+ghost use Rattle.rules.specs.Fault.{number_told};
+ghost use Rattle.rules.specs.Reading.{rule_at, tag_fault, body_fault, field_fault, seen_with, fault_after, header_body_fault, header_fault, read_fields};
+ghost use Rattle.sound.specs.Checked.{LimitsIn, told_of, checked_of};
 ghost use Rattle.sound.specs.Promise.{Checks};
 
-use super::starts::{again_fault, seen_with};
-use contents::content::{content_fault, first_of, length_fits, within};
-use rules::field::{Tag, head_at, tag_of};
+use super::starts::seen_with;
+use contents::content::{content_fault, length_fits, within};
+use rules::fault::Fault;
+use rules::field::{Tag, head_at};
 use sets::Room;
+use sets::marks::Marks;
 
-// What a check answers: the number of positions and of values of a sound file, or 01's number of
-// the first fault and the place of its field.
-#[derive(Clone, Copy)]
-pub enum Checked {
-    Sound { positions: u32, values: u32 },
-    Refused { number: u32, place: usize },
+// What a sound file is about: its number of positions and of values.
+// Kept: v up to 64 is asked by four inner functions and is no invariant, since a type with one has private fields, and
+// two methods to read them would be no plainer.
+#[derive(Clone, Copy, PartialEq, Eq, Debug)]
+pub struct Limits {
+    pub positions: u32,
+    pub values: u32,
+}
+
+// Why a file is not sound: the first fault, and the place of its field.
+#[derive(Clone, Copy, PartialEq, Eq, Debug)]
+pub struct Refused {
+    pub fault: Fault,
+    pub place: usize,
 }
 
 // The largest number of positions, as wide as a byte of the header is read.
 const POSITIONS: u32 = Room::POSITIONS as u32;
 
-// The fault of a tag behind the header: 15 for a second header, 16 for a tag that is not known, and
-// 0 for any other.
-fn tag_fault(kind: Tag) -> u32
-    ensures { result ≡ tag_fault kind }
+// What a test told of the field at a place: a fault is a refusal there.
+fn at_place<T>(told: Result<T, Fault>, place: usize) -> Result<T, Refused>
+    ensures { MatchResult told (λ x. result ≡ Ok x) (λ fault. result ≡ Err (record { fault = fault; place = place })) }
+{
+    told.map_err(|fault| Refused { fault, place })
+}
+
+// Whether the tag of a field behind the header is one: no second header, and no tag that is not known.
+fn tag_fault(kind: Tag) -> Result<(), Fault>
+    ensures { number_told result ≡ tag_fault kind }
 {
     match kind {
-        Tag::Header => 15,
-        Tag::Clause => 0,
-        Tag::Equality => 0,
-        Tag::Starting => 0,
-        Tag::AtMost => 0,
-        Tag::Unknown => 16,
+        Tag::Header => Err(Fault::SecondHeader),
+        Tag::Clause | Tag::Equality | Tag::Starting | Tag::AtMost => Ok(()),
+        Tag::Unknown => Err(Fault::UnknownTag),
     }
 }
 
-// The first fault behind a field's head; 0 where there is none.
-fn body_fault(content: &[u8], kind: Tag, len: usize, v: u32, n: u32) -> u32
-    requires { v ≤ 64 }
-    ensures { result ≡ body_fault v n kind len content.now }
+// The first fault behind a field's head.
+fn body_fault(bytes: &[u8], kind: Tag, len: usize, limits: Limits) -> Result<(), Fault>
+    requires { limits.positions ≤ 64 }
+    ensures { number_told result ≡ body_fault limits.positions limits.values kind len bytes.now }
 {
     if !length_fits(kind, len) {
-        return 17;
+        return Err(Fault::WrongLength);
     }
-    if content.len() < len {
-        return 13;
+    match bytes.get(..len) {
+        Some(content) => content_fault(content, kind, limits.positions, limits.values),
+        None => Err(Fault::CutOff),
     }
-    content_fault(content, kind, len, v, n)
 }
 
-// The first fault of the field that the bytes start with; 0 where there is none.
-fn field_fault(bytes: &[u8], v: u32, n: u32) -> u32
-    requires { v ≤ 64 }
-    ensures { result ≡ field_fault v n bytes.now }
+// The first fault of the field that the bytes start with.
+fn field_fault(bytes: &[u8], limits: Limits) -> Result<(), Fault>
+    requires { limits.positions ≤ 64 }
+    ensures { number_told result ≡ field_fault limits.positions limits.values bytes.now }
 {
     if bytes.len() < 3 {
-        return 13;
+        return Err(Fault::CutOff);
     }
     let head = head_at(bytes, 0);
-    let kind = tag_of(head.tag);
-    let tag = tag_fault(kind);
-    let body = body_fault(&bytes[3..], kind, head.length, v, n);
-    first_of(tag, body)
+    let kind = Tag::from(head.tag);
+    tag_fault(kind)?;
+    body_fault(&bytes[3..], kind, head.length, limits)
 }
 
-// The first fault behind the header's own head; 0 where there is none.
-fn header_body_fault(input: &[u8], len: usize) -> u32
-    ensures { result ≡ header_body_fault len input.now }
+// The limits of a file, or the first fault behind the header's own head.
+fn header_body_fault(input: &[u8], len: usize) -> Result<Limits, Fault>
+    ensures told { number_told result ≡ header_body_fault len input.now }
+    ensures read { IfOk result (LimitsIn input.now) }
 {
     if len != 2 {
-        return 17;
+        return Err(Fault::WrongLength);
     }
     if input.len() < 5 {
-        return 13;
+        return Err(Fault::CutOff);
     }
-    if !within(POSITIONS, input[3] as u32) {
-        return 18;
+    let positions = u32::from(input[3]);
+    let values = u32::from(input[4]);
+    if !within(POSITIONS, positions) {
+        return Err(Fault::WrongLimits);
     }
-    if !within(Room::VALUES, input[4] as u32) {
-        return 18;
+    if !within(Room::VALUES, values) {
+        return Err(Fault::WrongLimits);
     }
-    0
+    Ok(Limits { positions, values })
 }
 
-// The first fault of the header; 0 where there is none.
-fn header_fault(input: &[u8]) -> u32
-    ensures { result ≡ header_fault input.now }
+// The limits of a file, or the first fault of its header.
+fn header_fault(input: &[u8]) -> Result<Limits, Fault>
+    ensures told { number_told result ≡ header_fault input.now }
+    ensures read { IfOk result (LimitsIn input.now) }
 {
-    if input.len() == 0 {
-        return 14;
+    if input.is_empty() {
+        return Err(Fault::NoHeader);
     }
     if input.len() < 3 {
-        return 13;
+        return Err(Fault::CutOff);
     }
     let head = head_at(input, 0);
-    if head.tag != 1 {
-        return 14;
-    }
+    let Tag::Header = Tag::from(head.tag) else {
+        return Err(Fault::NoHeader);
+    };
     header_body_fault(input, head.length)
 }
 
-// The first fault of the field that the bytes start with, where the marked positions have a starting set
-// in front of it; 0 where there is none.
-fn fault_after(bytes: &[u8], v: u32, n: u32, seen: u64) -> u32
-    requires { v ≤ 64 }
-    ensures { result ≡ fault_after v n seen bytes.now }
+// The marks once the field that the bytes start with was read, or its first fault, where the marked positions
+// have a starting set in front of it.
+fn fault_after(bytes: &[u8], limits: Limits, seen: Marks) -> Result<Marks, Fault>
+    requires { limits.positions ≤ 64 }
+    ensures told { number_told result ≡ fault_after limits.positions limits.values seen bytes.now }
+    ensures marked { IfOk result (λ more. more ≡ seen_with (rule_at bytes.now) seen) }
 {
-    let fault = field_fault(bytes, v, n);
-    if fault != 0 {
-        return fault;
-    }
-    again_fault(bytes, seen)
+    field_fault(bytes, limits)?;
+    seen_with(bytes, seen)
 }
 
 // Walks the fields behind the header, with marks on the positions that have a starting set.
-fn check_fields(input: &[u8], v: u32, n: u32) -> Checked
-    requires { (5 ≤ length input.now) × (v ≤ 64) }
-    ensures { result ≡ checked_of (read_fields (length input.now) v n 0 5 (drop 5 input.now)) }
+fn check_fields(input: &[u8], limits: Limits) -> Result<Limits, Refused>
+    requires { (5 ≤ length input.now) × (limits.positions ≤ 64) }
+    ensures { told_of result ≡ checked_of (read_fields (length input.now) limits.positions limits.values 0 5 (drop 5 input.now)) }
 {
-    let mut seen = 0;
+    let mut seen = Marks::none();
     let mut at = 5;
+    // Kept: no plainer as an iterator. `fields` ends in silence where a field is cut off, and a refusal names
+    // its place.
     while at < input.len() {
-        let fault = fault_after(&input[at..], v, n, seen);
-        if fault != 0 {
-            return Checked::Refused {
-                number: fault,
-                place: at,
-            };
-        }
-        seen = seen_with(&input[at..], seen);
-        at += 3 + head_at(input, at).length;
+        let bytes = &input[at..];
+        seen = at_place(fault_after(bytes, limits, seen), at)?;
+        at += 3 + head_at(bytes, 0).length;
     }
-    Checked::Sound {
-        positions: v,
-        values: n,
-    }
+    Ok(limits)
 }
 
 // Whether the input is a sound file, for every input: its number of positions and of values, or
 // the first fault in 01's order of tests with the place of its field.
-pub fn check(input: &[u8]) -> Checked
+pub fn check(input: &[u8]) -> Result<Limits, Refused>
     ensures { Checks input.now result }
 {
-    let fault = header_fault(input);
-    if fault != 0 {
-        return Checked::Refused {
-            number: fault,
-            place: 0,
-        };
-    }
-    let v = input[3] as u32;
-    let n = input[4] as u32;
-    check_fields(input, v, n)
+    let limits = at_place(header_fault(input), 0)?;
+    check_fields(input, limits)
 }

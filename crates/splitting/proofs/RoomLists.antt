@@ -1,8 +1,7 @@
 -- Laws of the smallest values of the first rooms of an array, written room by room. Assumes nothing.
 use mathlib.Core.Path.{◌≡◌, sym, ap, ◌∙◌}
 use mathlib.Core.List.{List, [], ◌∷◌, ◌++◌, map, map-append}
-use Prim.Native.Nat.{ℕ, ◌+◌, ◌^◌, ◌<◌}
-use native.Mathlib.Decide.{ℕ_discrete}
+use Prim.Native.Nat.{ℕ, ◌+◌, ◌<◌}
 use native.Mathlib.Numerals.{add-one}
 use native.Mathlib.Omega.{arith}
 use lib.ListN.{length, get_or, take, set, length-map}
@@ -10,16 +9,12 @@ use lib.Seq.{length-take-le, take-suc}
 use Rattle.lists.specs.Buffer.{over}
 use Rattle.lists.proofs.BufferLaws.{over_store}
 use Rattle.sets.specs.Sets.{smallest}
-use Rattle.sets.proofs.Smallest.{smallest_of_empty, smallest_range}
+use Rattle.sets.proofs.Smallest.{smallest_most}
 use Rattle.steps.specs.Boxes.{smallest_of}
 
 -- the smallest value of a room fits into a byte
-pub smallest_byte : (room : ℕ) → room < 2 ^ 32 → smallest room < 256
-smallest_byte room small = go (ℕ_discrete room 0)
-  where
-    go : Dec (room ≡ 0) → smallest room < 256
-    go (yes e) = omega (arith, ap smallest e, smallest_of_empty)
-    go (no ne) = omega (arith, (smallest_range room small ne).1)
+pub smallest_byte : (room : ℕ) → smallest room < 256
+smallest_byte room = omega (arith, smallest_most room)
 
 -- the smallest values of one room more
 smallest_more : (i : ℕ) (rooms : List ℕ) → i < length rooms → map smallest (take (i + 1) rooms) ≡ map smallest (take i rooms) ++ smallest (get_or rooms i 0) ∷ []

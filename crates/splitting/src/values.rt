@@ -2,19 +2,16 @@
 ghost use Rattle.std.specs.Prelude.{◌≤◌, length};
 ghost use Rattle.splitting.specs.Promise.{WritesSmallest};
 
-use sets::Room;
+use rooms::Rooms;
 
-// Writes the smallest value of each of the v rooms to the front of the buffer.
-pub fn write_smallest(answer: &mut [u8], rooms: &[u32; Room::POSITIONS], v: usize)
-    requires { (v ≤ 64) × (v ≤ length answer.old) }
-    ensures { WritesSmallest rooms.now v answer.old answer.new }
+// Writes the smallest value of each room to the front of the buffer.
+pub fn write_smallest(answer: &mut [u8], rooms: &Rooms)
+    requires { length rooms.now.box ≤ length answer.old }
+    ensures { WritesSmallest rooms.now answer.old answer.new }
 {
-    // As a slice the rooms are known to be 64.
-    let all: &[u32] = rooms;
-    let mut i = 0;
-    while i < v {
-        let room = Room { mask: all[i] };
+    // Kept: an index, and no `zip` with `answer.iter_mut()`: tried, and behind that loop nothing is known of
+    // the bytes that were written (the goal `returns` stays open; an adapter of `iter_mut` says no more).
+    for (i, room) in rooms.as_slice().iter().enumerate() {
         answer[i] = room.smallest() as u8;
-        i += 1;
     }
 }

@@ -5,10 +5,10 @@ use Prim.Native.Nat.{ℕ, ◌≤◌}
 use native.Mathlib.Omega.{arith}
 use lib.ListN.{length, take}
 use lib.Seq.{length-take-le}
-use Rattle.streams.specs.declared.Taken.{Taken}
-use Rattle.streams.specs.declared.Taken.TheVariants.{Whole}
+use Rattle.std.specs.Prelude.{Result, Ok}
+use Rattle.streams.specs.declared.NotWhole.{NotWhole}
 use Rattle.streams.specs.Promise.{Took}
 
 -- they are no more than the buffer has, and as many as the part of it has
-pub whole_part : (buffer : List ℕ) (n : ℕ) (r : Taken) → Took buffer r → r ≡ Whole n → (n ≤ length buffer) × (n ≡ length (take n buffer))
+pub whole_part : (buffer : List ℕ) (n : ℕ) (r : Result ℕ NotWhole) → Took buffer r → r ≡ Ok n → (n ≤ length buffer) × (n ≡ length (take n buffer))
 whole_part buffer n r took whole = let less = took n whole in (omega arith, sym (length-take-le n buffer (omega arith)))

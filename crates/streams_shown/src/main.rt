@@ -7,89 +7,50 @@
 #![tactic(auto)]
 
 use std::fs::{File, OpenOptions};
-use std::io::Read;
-use streams::Taken;
+use std::io::{self, Read, Write};
+use streams::{NotWhole, take_whole};
 
-// The descriptor of standard output.
-const STDOUT: i32 = 1;
-
-fn main(rt: HostRuntime) {
-    show_file(&rt, "short");
-    show_file(&rt, "one_less");
-    show_file(&rt, "as_long");
-    show_file(&rt, "longer");
-    show_file(&rt, "empty");
-    show_file(&rt, ".");
-    show_no_room(&rt, "short");
-    show_no_room(&rt, "empty");
-    show_closed(&rt, "short");
-    show("standard input", &mut rt.stdin());
-}
-
-// The file of this name.
-fn show_file(rt: &HostRuntime, name: &str) {
-    match File::open(rt, name) {
-        Ok(mut file) => show(name, &mut file),
-        Err(_) => not_opened(name),
-    }
-}
-
-// The file of this name, with a buffer of no bytes.
-fn show_no_room(rt: &HostRuntime, name: &str) {
-    let mut none = [0u8; 0];
-    match File::open(rt, name) {
-        Ok(mut file) => {
-            print(name);
-            print(", no room");
-            show_taken(&mut file, &mut none);
-        }
-        Err(_) => not_opened(name),
-    }
-}
-
-// The file of this name, closed to reading: it is open for writing alone. Std hands out no descriptor that
-// is closed; a read of this one fails with the same error, EBADF.
-fn show_closed(rt: &HostRuntime, name: &str) {
-    match OpenOptions::new().write(true).open(rt, name) {
-        Ok(mut file) => {
-            print(name);
-            show(", closed", &mut file);
-        }
-        Err(_) => not_opened(name),
-    }
-}
-
-// A file that the system did not open, of which there is none here: nothing can be read of it.
-fn not_opened(name: &str) {
-    print(name);
-    print(": failed\n");
-}
-
-// An input.
-fn show<R: Read>(name: &str, input: &mut R) {
+fn main(rt: HostRuntime) -> io::Result<()> {
     let mut buf = [0u8; 16];
-    print(name);
-    show_taken(input, &mut buf);
-}
-
-// What became of the input.
-fn show_taken<R: Read>(input: &mut R, buf: &mut [u8]) {
-    match streams::take_whole(input, buf) {
-        Taken::Whole(n) => show_whole(&buf[..n]),
-        Taken::TooLong => print(": too long\n"),
-        Taken::Failed => print(": failed\n"),
+    for name in ["short", "one_less", "as_long", "longer", "empty", "."] {
+        show(&rt, name, take_file(&rt, name, &mut buf))?;
     }
+    for (name, shown) in [("short", "short, no room"), ("empty", "empty, no room")] {
+        show(&rt, shown, take_file(&rt, name, &mut []))?;
+    }
+    show(&rt, "short, closed", take_closed(&rt, "short", &mut buf))?;
+    show(&rt, "standard input", take(&mut rt.stdin(), &mut buf))
 }
 
-// An input that was taken whole.
-fn show_whole(bytes: &[u8]) {
-    print(": whole ");
-    io::print_decimal(STDOUT, bytes.len() as u64);
-    print(" <");
-    io::write_all(STDOUT, bytes);
-    print(">\n");
+// The bytes of an input, taken whole into the buffer.
+fn take<'a, R: Read>(input: &mut R, buf: &'a mut [u8]) -> Result<&'a [u8], NotWhole> {
+    let len = take_whole(input, buf)?;
+    Ok(&buf[..len])
 }
 
-fn print(words: &str) {
-    io::write_all(STDOUT, words.as_bytes());
+// Those of the file of this name. Of one that the system did not open, of which there is none here, nothing
+// can be read, so that it counts as failed.
+fn take_file<'a>(rt: &HostRuntime, name: &str, buf: &'a mut [u8]) -> Result<&'a [u8], NotWhole> {
+    take(&mut File::open(rt, name)?, buf)
+}
+
+// The same, closed to reading: it is open for writing alone. Std hands out no descriptor that is closed; a
+// read of this one fails with the same error, EBADF.
+fn take_closed<'a>(rt: &HostRuntime, name: &str, buf: &'a mut [u8]) -> Result<&'a [u8], NotWhole> {
+    take(&mut OpenOptions::new().write(true).open(rt, name)?, buf)
+}
+
+// Prints the line of an input: its name and what became of it. Its bytes are printed as they are, since
+// standard input need not be text.
+fn show(rt: &HostRuntime, name: &str, taken: Result<&[u8], NotWhole>) -> io::Result<()> {
+    let mut out = rt.stdout();
+    match taken {
+        Ok(bytes) => {
+            write!(out, "{name}: whole {} <", bytes.len())?;
+            out.write_all(bytes)?;
+            writeln!(out, ">")
+        }
+        Err(NotWhole::TooLong) => writeln!(out, "{name}: too long"),
+        Err(NotWhole::Failed(_)) => writeln!(out, "{name}: failed"),
+    }
 }

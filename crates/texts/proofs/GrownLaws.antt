@@ -36,18 +36,18 @@ unfolding grown
 grown-append text [] ys = refl
 grown-append text (x ∷ xs) ys = grown-append (put text x) xs ys
 
--- the first part of what is left is added: the rest is left
-pub grown_left : (text : Text) (xs ys : List ℕ) {left : List ℕ} {r whole : Text} → left ≡ xs ++ ys → r ≡ grown text xs → grown text left ≡ whole → grown r ys ≡ whole
-grown_left text xs ys parts first all = ap (λ (t : Text). grown t ys) first ∙ sym (grown-append text xs ys) ∙ ap (grown text) (sym parts) ∙ all
-
--- nothing is left
-pub grown_all : (text : Text) {left : List ℕ} {whole : Text} → left ≡ [] → grown text left ≡ whole → text ≡ whole
+-- no byte more
+pub grown_none : (text : Text) {more : List ℕ} → more ≡ [] → text ≡ grown text more
 unfolding grown
-grown_all text none all = ap (grown text) (sym none) ∙ all
+grown_none text none = sym (ap (grown text) none)
 
 -- bytes that are added in two parts
 pub grown_more : (text : Text) (xs ys : List ℕ) {r s : Text} → r ≡ grown text xs → s ≡ grown r ys → s ≡ grown text (xs ++ ys)
-grown_more text xs ys first second = second ∙ grown_left text xs ys refl first refl
+grown_more text xs ys first second = second ∙ ap (λ (t : Text). grown t ys) first ∙ sym (grown-append text xs ys)
+
+-- the same, where the whole is known by another name
+pub grown_whole : (text : Text) (xs ys : List ℕ) {whole : List ℕ} {r s : Text} → xs ++ ys ≡ whole → r ≡ grown text xs → s ≡ grown r ys → s ≡ grown text whole
+grown_whole text xs ys parts first second = grown_more text xs ys first second ∙ ap (grown text) parts
 
 -- ---- what is shown
 

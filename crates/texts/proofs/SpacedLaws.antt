@@ -1,32 +1,31 @@
 -- Laws of numbers in decimal with spaces: one number more, and how many bytes there are. Assumes nothing.
 use mathlib.Core.Path.{◌≡◌, refl, sym, ap, ◌∙◌}
-use mathlib.Core.List.{List, [], ◌∷◌, ◌++◌, append-nil}
+use mathlib.Core.List.{List, [], ◌∷◌, ◌++◌, append-nil, append_assoc}
 use Prim.Native.Nat.{ℕ, ◌+◌, ◌*◌, ◌≤◌, ◌<◌}
 use native.Mathlib.Omega.{arith}
-use lib.ListN.{length, get_or, drop, length-append}
+use lib.ListN.{length, get_or, take, length-append}
 use Rattle.texts.specs.Bytes.{decimal, behind, spaced}
 use Rattle.texts.proofs.DigitLaws.{decimal-length}
-use Rattle.lists.proofs.TakeDrop.{drop_next}
+use Rattle.std.proofs.lemmas.List.{take_more}
 
 -- one number behind a space
 pub behind_one : (n : ℕ) → behind (n ∷ []) ≡ (32 ∷ []) ++ decimal n
 unfolding behind
 behind_one n = ap (λ (zs : List ℕ). 32 ∷ zs) (append-nil (decimal n))
 
+-- numbers, each behind a space, and then others
+behind-append : (xs ys : List ℕ) → behind (xs ++ ys) ≡ behind xs ++ behind ys
+unfolding behind
+behind-append [] ys = refl
+behind-append (x ∷ xs) ys = ap (λ (zs : List ℕ). 32 ∷ (decimal x ++ zs)) (behind-append xs ys) ∙ ap (λ (zs : List ℕ). 32 ∷ zs) (sym (append_assoc (decimal x) (behind xs) (behind ys)))
+
 -- the first number behind a space, and then the others
 pub behind-first : (x : ℕ) (xs : List ℕ) → behind (x ∷ xs) ≡ behind (x ∷ []) ++ behind xs
-unfolding behind
-behind-first x xs = ap (λ (zs : List ℕ). 32 ∷ (zs ++ behind xs)) (sym (append-nil (decimal x)))
+behind-first x xs = behind-append (x ∷ []) xs
 
--- the values from a place on: one behind a space, and then the others
-pub behind_next : (xs : List ℕ) (i : ℕ) → i < length xs → behind (drop i xs) ≡ behind (get_or xs i 0 ∷ []) ++ behind (drop (i + 1) xs)
-behind_next xs i lt = ap behind (drop_next xs i lt) ∙ behind-first (get_or xs i 0) (drop (i + 1) xs)
-
--- the first value, and those behind it
-pub spaced-first : (xs : List ℕ) → 1 ≤ length xs → decimal (get_or xs 0 0) ++ behind (drop 1 xs) ≡ spaced xs
-unfolding spaced
-spaced-first [] le = absurd (omega arith)
-spaced-first (x ∷ xs) le = refl
+-- the values up to a place, and that at the place
+pub behind_next : (xs : List ℕ) (i : ℕ) → i < length xs → behind (take i xs) ++ behind (get_or xs i 0 ∷ []) ≡ behind (take (i + 1) xs)
+behind_next xs i lt = sym (ap behind (take_more xs i 0 lt) ∙ behind-append (take i xs) (get_or xs i 0 ∷ []))
 
 -- no value
 pub spaced-none : (xs : List ℕ) → length xs < 1 → spaced xs ≡ []

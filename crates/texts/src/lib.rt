@@ -2,14 +2,20 @@
 // specs/Bytes.antt (words, numbers and values as bytes) and specs/Grown.antt (a text with more bytes).
 #![tactic(auto)]
 
-ghost use Rattle.std.specs.Prelude.{◌≡◌, ◌++◌, ◌∷◌, [], min, take};
+ghost use Rattle.std.specs.Prelude.{◌≡◌, ◌≤◌, ◌++◌, ◌∷◌, [], length, take};
 ghost use Rattle.texts.specs.Bytes.{decimal, behind, spaced, newline};
+ghost use Rattle.texts.specs.Grown.{shown};
 ghost use Rattle.texts.specs.Promise.{New, Grows};
 
+// The bytes that a text has room for.
+const ROOM: usize = 2048;
+
 // A text of at most 2,048 bytes: the first `len` bytes are the text.
+// Kept: public fields, an array with a length beside it: any array and any length is taken, as before, which
+// a type with an invariant would not, and texts have no heap.
 #[derive(Clone, Copy)]
 pub struct Text {
-    pub bytes: [u8; 2048],
+    pub bytes: [u8; ROOM],
     pub len: usize,
 }
 
@@ -19,89 +25,82 @@ impl Text {
         ensures { New result }
     {
         Text {
-            bytes: [0u8; 2048],
+            bytes: [0; ROOM],
             len: 0,
         }
     }
 
-    // One byte more; a text that is full stays as it is.
-    pub fn byte(self, b: u8) -> Text
-        ensures { Grows self (b ∷ []) result }
+    // The bytes of the text.
+    pub fn as_bytes(&self) -> &[u8]
+        ensures value { result.now ≡ shown self.now }
+        ensures within { length result.now ≤ 2048 }
     {
-        let at = self.len;
-        if 2048 <= at {
-            return self;
+        &self.bytes[..self.len.min(ROOM)]
+    }
+
+    // One byte more; a text that is full stays as it is.
+    pub fn byte(&mut self, b: u8)
+        ensures { Grows self.old (b ∷ []) self.new }
+    {
+        if self.len < ROOM {
+            self.bytes[self.len] = b;
+            self.len += 1;
         }
-        let mut bytes = self.bytes;
-        bytes[at] = b;
-        Text { bytes, len: at + 1 }
     }
 
     // The bytes of a word more.
-    pub fn word(self, word: &[u8]) -> Text
-        ensures { Grows self word.now result }
+    pub fn word(&mut self, word: &[u8])
+        ensures { Grows self.old word.now self.new }
     {
-        let mut text = self;
-        let mut at = 0;
-        while at < word.len() {
-            text = text.byte(word[at]);
-            at += 1;
+        for &b in word {
+            self.byte(b);
         }
-        text
     }
 
     // A number more, in decimal.
-    pub fn number(self, n: u64) -> Text
-        ensures { Grows self (decimal n) result }
+    pub fn number(&mut self, n: u64)
+        ensures { Grows self.old (decimal n) self.new }
     {
-        if n < 10 {
-            return self.byte(48 + n as u8);
+        if 10 <= n {
+            self.number(n / 10);
         }
-        self.number(n / 10).byte(48 + (n % 10) as u8)
+        self.byte(b'0' + (n % 10) as u8);
     }
 
     // A space and a number more.
-    pub fn behind(self, n: u64) -> Text
-        ensures { Grows self (behind (n ∷ [])) result }
+    pub fn behind(&mut self, n: u64)
+        ensures { Grows self.old (behind (n ∷ [])) self.new }
     {
-        self.byte(32).number(n)
+        self.byte(b' ');
+        self.number(n);
     }
 
     // Values more, a space before each.
-    pub fn all_behind(self, values: &[u8]) -> Text
-        ensures { Grows self (behind values.now) result }
+    pub fn all_behind(&mut self, values: &[u8])
+        ensures { Grows self.old (behind values.now) self.new }
     {
-        let mut text = self;
-        let mut i = 0;
-        while i < values.len() {
-            text = text.behind(values[i] as u64);
-            i += 1;
+        for &value in values {
+            self.behind(u64::from(value));
         }
-        text
     }
 
     // Values more, with single spaces between.
-    pub fn spaced(self, values: &[u8]) -> Text
-        ensures { Grows self (spaced values.now) result }
+    pub fn spaced(&mut self, values: &[u8])
+        ensures { Grows self.old (spaced values.now) self.new }
     {
-        if values.len() < 1 {
-            return self;
+        if let Some((&first, rest)) = values.split_first() {
+            self.number(u64::from(first));
+            self.all_behind(rest);
         }
-        self.number(values[0] as u64).all_behind(&values[1..])
     }
 
     // The line of the first v values more: of all where there are fewer.
-    pub fn values(self, values: &[u8], v: usize) -> Text
-        ensures { Grows self (spaced (take v values.now) ++ newline) result }
+    // Kept: v beside the values, since a v above their number is taken too, which a slice of v values is not.
+    pub fn values(&mut self, values: &[u8], v: usize)
+        ensures { Grows self.old (spaced (take v values.now) ++ newline) self.new }
     {
-        let count = smaller(v, values.len());
-        self.spaced(&values[..count]).byte(10)
+        let count = v.min(values.len());
+        self.spaced(&values[..count]);
+        self.byte(b'\n');
     }
-}
-
-// The smaller of two numbers.
-fn smaller(a: usize, b: usize) -> usize
-    ensures { result ≡ min a b }
-{
-    if a < b { a } else { b }
 }

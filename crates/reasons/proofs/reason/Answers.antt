@@ -1,14 +1,14 @@
 -- `reasons::reason` meets its promise: the words of a NONE, of a refusal, or none, by the number. Assumes nothing.
-use Rattle.std.proofs.Common.{sym, ap, ◌∙◌}
+use Rattle.std.proofs.Common.{arith, sym, ap, ◌∙◌}
 use Rattle.texts.specs.Grown.{line_of}
 use Rattle.reasons.proofs.WordLaws.{reason-none, reason-refused, reason_other}
 use Rattle.reasons.proofs.reason.Goals as goal
 
-pub returns-then-number-eq-NONE : goal.returns-then-number-eq-NONE
-returns-then-number-eq-NONE c = c.unmet.ensures ∙ ap line_of (sym (reason-none _ _ c.if-number-eq-NONE.true))
+pub returns-in-1 : goal.returns-in-1
+returns-in-1 c = c.unmet.ensures ∙ ap line_of (sym (reason-none _ _ c.in-1.is))
 
-pub returns-then-number-lt10 : goal.returns-then-number-lt10
-returns-then-number-lt10 c = c.new.ensures ∙ ap line_of (sym (reason_other _ _ c.if-number-eq-NONE.false c.if-number-lt10.true))
+pub returns-in_default : goal.returns-in_default
+returns-in_default c = c.new.ensures ∙ ap line_of (sym (reason_other c.args.number c.args.place (omega arith) (omega arith)))
 
-pub returns : goal.returns
-returns c = c.words.ensures ∙ ap line_of (sym (reason-refused _ _ c.if-number-lt10.false))
+pub returns-in-10-to-4294967295 : goal.returns-in-10-to-4294967295
+returns-in-10-to-4294967295 c = c.words.ensures ∙ ap line_of (sym (reason-refused _ _ (omega arith)))

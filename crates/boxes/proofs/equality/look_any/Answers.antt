@@ -1,52 +1,59 @@
 -- `boxes::equality::look_any` meets its contract: position by position, by the laws of the scan. Assumes nothing.
-use Rattle.std.proofs.Common.{arith, refl, ◌∙◌, take, length-take}
-use mathlib.Core.Logic.{inl, inr}
-use Rattle.clauses.proofs.ScanLaws.{scan-starts, scan_as, scan-there}
-use Rattle.boxes.proofs.EqualityLooks.{named_passes, named-meets, named_several, named-dead, named-cut}
+use Rattle.std.proofs.Common.{arith, ℕ, Bool, true, List, ◌≡◌, sym, ap, ◌∙◌}
+use Rattle.std.proofs.lemmas.List.{drop_all}
+use Rattle.sets.specs.Sets.{common, meets}
+use Rattle.steps.specs.Shrinking.{look_part}
+use Rattle.rooms.proofs.LookLaws.{leaves_same}
+use Rattle.boxes.proofs.EqualityLooks.{starts, position_next, position_fits, test-meets, test_apart, met-passes, met-first, met-again, met_several, met-dead, met-only, met_there}
+use Rattle.steps.specs.Boxes.{room_at}
 use Rattle.boxes.proofs.equality.look_any.Goals as goal
-use Rattle.boxes.proofs.equality.look_any.Goals.{then-shared-ne0, then-kept-ne0+else-p-live, else-kept-ne0, else-shared-ne0}
+use Rattle.boxes.proofs.equality.look_any.Goals.{in-Some+else-first-position, in_default}
 
-pub loop-i-init : goal.loop-i-init
-loop-i-init c = let a = c.args in (omega arith, scan-starts (take a.v a.rooms.now) 0 refl)
+-- a room that meets a set shares a value with it
+shares : (box : List ℕ) (p m : ℕ) {room : ℕ} {r : Bool} → room ≡ room_at box p → r ≡ meets room m → r ≡ true → common (room_at box p) m ≡ 0 → ⊥
+shares box p m {room} here e t none = test-meets room m e t (ap (λ (k : ℕ). common k m) here ∙ none)
 
-pub returns-then-p-live : goal.returns-then-p-live
-returns-then-p-live c =
+pub loop-p-init : goal.loop-p-init
+loop-p-init c = starts c.args.rooms.now.box _
+
+pub loop-p-preserved-then-not-meets : goal.loop-p-preserved-then-not-meets
+loop-p-preserved-then-not-meets c =
     let a = c.args in
-    named_several c.requires c.loop-i-test.true a.rooms.now a.mask c.common-shared.ensures.result c.loop-i.invariant.1 c.if-kept-ne0.true (λ same. omega arith)
-    c.if-shared-ne0.true
+    met-passes a.set a.positions.now a.rooms.now.box (position_next a.positions.now c.loop-p.p-index _ c.loop-p-test.true c.from-position.ensures)
+    c.loop-p.live c.loop-p.invariant (ap (λ (room : ℕ). common room a.set) (sym c.at.ensures) ∙ test_apart c.at.result a.set c.meets.ensures.result c.if-not-meets.true)
 
-pub loop-i-preserved : goal.loop-i-preserved
-loop-i-preserved c =
+pub returns-then-first-position : goal.returns-then-first-position
+returns-then-first-position c =
     let a = c.args in
-    let there = c.loop-i-test.true in
-    let inv = c.loop-i.invariant.1 in
-    let shared = c.common-shared.ensures.result in (
-      omega arith,
-      elim c.if-shared-ne0.branch [
-        | then-shared-ne0 w ↦ scan_as
-            (named-meets c.requires there a.rooms.now a.mask shared inv
-            (elim w.if-kept-ne0.branch [ then-kept-ne0+else-p-live u ↦ inr (omega arith) | else-kept-ne0 u ↦ inl u.if-kept-ne0.false ]))
-            w.live-is (w.kept-is ∙ w.union-kept.ensures.result)
-        | else-shared-ne0 w ↦ scan_as (named_passes c.requires there a.rooms.now a.mask shared inv w.if-shared-ne0.false) w.live-is w.kept-is
-      ],
-    )
+    let next = position_next a.positions.now c.loop-p.p-index _ c.loop-p-test.true c.from-position.ensures in
+    let fits = position_fits _ a.positions.now c.requires c.loop-p.p-index _ c.loop-p-test.true c.from-position.ensures in
+    let some = shares a.rooms.now.box c.from-position.result a.set c.at.ensures c.meets.ensures.result c.if-not-meets.false in
+    leaves_same look_part _ a.rooms.now
+    (met_several a.set a.positions.now a.rooms.now.box next fits.0 some c.loop-p.invariant c.in-Some.is (λ same. omega (arith, c.type_inv.positions c.loop-p.p-index)))
 
-pub returns-then-kept-eq0 : goal.returns-then-kept-eq0
-returns-then-kept-eq0 c =
+pub loop-p-preserved : goal.loop-p-preserved
+loop-p-preserved c =
     let a = c.args in
-    named-dead a.mask a.v a.count c.loop-i.i a.positions.now a.rooms.now c.loop-i.invariant.1 c.loop-i-test.false c.if-kept-eq0.true a.rooms.now
+    let next = position_next a.positions.now c.loop-p.p-index _ c.loop-p-test.true c.from-position.ensures in
+    let fits = position_fits _ a.positions.now c.requires c.loop-p.p-index _ c.loop-p-test.true c.from-position.ensures in
+    let some = shares a.rooms.now.box c.from-position.result a.set c.at.ensures c.meets.ensures.result c.if-not-meets.false in
+    elim c.match-live.branch [
+      | in-Some+else-first-position w ↦ met-again a.set a.positions.now a.rooms.now.box next fits.0 some c.loop-p.invariant w.in-Some.is
+          (omega (arith, c.type_inv.positions c.loop-p.p-index)) w.live-is
+      | in_default w ↦ met-first a.set a.positions.now a.rooms.now.box next fits.0 some c.loop-p.invariant w.in_default.is w.live-is
+    ]
 
-pub offset_bounds-rooms-live : goal.offset_bounds-rooms-live
-offset_bounds-rooms-live c =
+pub look_single-requires : goal.look_single-requires
+look_single-requires c =
     let a = c.args in
-    omega (arith, scan-there c.loop-i.invariant.1 c.if-kept-eq0.false, length-take a.v a.rooms.now, c.requires.few)
+    met_there a.set a.positions.now a.rooms.now (drop_all c.loop-p.p-index a.positions.now c.loop-p-test.false) c.in-Some-live.position c.loop-p.invariant c.in-Some-live.is
 
-pub bounds-rooms-live : goal.bounds-rooms-live
-bounds-rooms-live c =
+pub returns-in-None : goal.returns-in-None
+returns-in-None c =
     let a = c.args in
-    omega (arith, scan-there c.loop-i.invariant.1 c.if-kept-eq0.false, length-take a.v a.rooms.now, c.requires.few)
+    met-dead a.set a.positions.now a.rooms.now (drop_all c.loop-p.p-index a.positions.now c.loop-p-test.false) c.loop-p.invariant c.in-None.is a.rooms.now
 
-pub returns : goal.returns
-returns c =
+pub returns-in-Some-live : goal.returns-in-Some-live
+returns-in-Some-live c =
     let a = c.args in
-    named-cut a.mask a.v a.count c.loop-i.i a.positions.now a.rooms.now c.loop-i.invariant.1 c.loop-i-test.false c.if-kept-eq0.false
+    met-only a.set a.positions.now a.rooms.now (drop_all c.loop-p.p-index a.positions.now c.loop-p-test.false) c.in-Some-live.position c.loop-p.invariant c.in-Some-live.is c.look_single.ensures

@@ -1,33 +1,23 @@
 -- `clauses::look::look_atoms` meets its contract: by what the two scans have met. Assumes nothing.
-use Rattle.std.proofs.Common.{arith, length-take}
-use Rattle.clauses.proofs.AtomsInTurn.{atoms_end}
-use Rattle.clauses.proofs.ScanLaws.{scan-there, scan-dead, looks-dead, looks_same, looks-set}
+use Rattle.std.proofs.Common.{length, subst, sym}
+use Rattle.rules.specs.Contents.{AtomsFit}
+use Rattle.clauses.proofs.ScanLaws.{met-there, looks-dead, looks_same, looks_cut}
 use Rattle.clauses.proofs.look.look_atoms.Goals as goal
 
-pub returns-then-met-eq0 : goal.returns-then-met-eq0
-returns-then-met-eq0 c =
-    let a = c.args in
-    let met = c.first_live-met in
-    let none = atoms_end a.len met.result.next a.content.now (met.ensures.through c.if-met-eq0.true) in
-    looks-dead a.content.now a.len a.v a.rooms.now (λ place. scan-dead met.ensures.scanned none place c.if-met-eq0.true)
+pub first_live-requires : goal.first_live-requires
+first_live-requires c = subst (AtomsFit (length c.args.rooms.now.box)) (sym c.atoms-left.ensures) c.requires.fit
 
-pub offset_bounds-rooms-live : goal.offset_bounds-rooms-live
-offset_bounds-rooms-live c =
-    let a = c.args in
-    omega (arith, scan-there c.first_live-met.ensures.scanned c.if-met-eq0.false, length-take a.v a.rooms.now, c.requires.few)
+pub returns-in_default : goal.returns-in_default
+returns-in_default c = looks-dead c.atoms-left.ensures c.in_default.ensures
 
-pub bounds-rooms-live : goal.bounds-rooms-live
-bounds-rooms-live c =
-    let a = c.args in
-    omega (arith, scan-there c.first_live-met.ensures.scanned c.if-met-eq0.false, length-take a.v a.rooms.now, c.requires.few)
+pub only_live-requires : goal.only_live-requires
+only_live-requires c = c.in-Some.ensures.1
 
-pub returns-then-kept-ne0 : goal.returns-then-kept-ne0
-returns-then-kept-ne0 c =
-    let a = c.args in
-    looks-set a.content.now a.len a.v a.rooms.now c.first_live-met.result.live c.only_live-kept.ensures c.if-kept-ne0.true
-    (scan-there c.first_live-met.ensures.scanned c.if-met-eq0.false)
+pub put-requires : goal.put-requires
+put-requires c = met-there c.in-Some.ensures.0
 
-pub returns-else-kept-ne0 : goal.returns-else-kept-ne0
-returns-else-kept-ne0 c =
-    let a = c.args in
-    looks_same a.content.now a.len a.v a.rooms.now c.first_live-met.result.live c.only_live-kept.ensures c.if-kept-ne0.false
+pub returns-in-Some-only_live : goal.returns-in-Some-only_live
+returns-in-Some-only_live c = looks_cut c.atoms-left.ensures c.in-Some.ensures.0 c.in-Some-only_live.ensures c.put.ensures
+
+pub returns-in_default-only_live : goal.returns-in_default-only_live
+returns-in_default-only_live c = looks_same c.atoms-left.ensures c.in-Some.ensures.0 c.in_default-only_live.ensures

@@ -1,8 +1,13 @@
 -- `contents::content::atom_fault` meets its contract: the position before the set. Assumes nothing.
-use Rattle.std.proofs.Common.{ap₂, ◌∙◌}
-use Rattle.rules.specs.Reading.{or_else, atom_fault}
+use Rattle.std.proofs.Common.{◌∙◌}
+use Rattle.rules.specs.Reading.{atom_fault}
+use Rattle.contents.proofs.FaultLaws.{told_first, none_told}
 use Rattle.contents.proofs.content.atom_fault.Goals as goal
+
+pub returns-in_err-position_fault : goal.returns-in_err-position_fault
+unfolding atom_fault
+returns-in_err-position_fault c = told_first _ _ _ c.from_residual.ensures.1 c.in_err-position_fault.ensures
 
 pub returns : goal.returns
 unfolding atom_fault
-returns c = c.first_of.ensures ∙ ap₂ or_else c.position_fault-position.ensures c.set_fault-set.ensures
+returns c = c.set_fault.ensures ∙ none_told _ c.in_ok-position_fault.ensures

@@ -1,14 +1,13 @@
 -- `contents::content::empty_fault` meets its contract. Assumes nothing.
-use Rattle.sets.specs.Sets.{is_empty}
+use Rattle.std.proofs.Common.{sym, ◌∙◌}
+use Rattle.rules.specs.Fault.{number_of, number_told}
 use Rattle.rules.specs.Reading.{empty_fault}
-use Rattle.contents.proofs.FaultLaws.{fault_so, fault-not}
-use borrow.Author.Tests.{eq-eqb, ne_eqb}
 use Rattle.contents.proofs.content.empty_fault.Goals as goal
 
-pub returns-then-set-eq0 : goal.returns-then-set-eq0
-unfolding empty_fault is_empty
-returns-then-set-eq0 c = fault_so 26 (λ _. 0) (eq-eqb c.args.set 0 c.if-set-eq0.true)
+pub returns-then-is_empty : goal.returns-then-is_empty
+unfolding number_of number_told empty_fault
+returns-then-is_empty c = simp (sym c.is_empty.ensures.result ∙ c.if-is_empty.true)
 
-pub returns-else-set-eq0 : goal.returns-else-set-eq0
-unfolding empty_fault is_empty
-returns-else-set-eq0 c = fault-not 26 (λ _. 0) (ne_eqb c.args.set 0 c.if-set-eq0.false)
+pub returns-else-is_empty : goal.returns-else-is_empty
+unfolding number_told empty_fault
+returns-else-is_empty c = simp (sym c.is_empty.ensures.result ∙ c.if-is_empty.false)

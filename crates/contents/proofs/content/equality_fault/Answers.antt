@@ -1,13 +1,13 @@
 -- `contents::content::equality_fault` meets its contract: the set before the positions. Assumes nothing.
-use Rattle.std.proofs.Common.{ap, ap₂, ◌∙◌, ℕ, ◌-◌, List, take}
-use Rattle.rules.specs.Reading.{or_else, rule_of, set_fault, positions_fault, rule_fault}
-use Rattle.lists.proofs.TakeDrop.{rest_part}
+use Rattle.std.proofs.Common.{ap, ◌∙◌}
+use Rattle.rules.specs.Reading.{rule_of, set_fault, rule_fault}
+use Rattle.contents.proofs.FaultLaws.{told_first, none_told}
 use Rattle.contents.proofs.content.equality_fault.Goals as goal
+
+pub returns-in_err-set_fault : goal.returns-in_err-set_fault
+unfolding rule_of rule_fault
+returns-in_err-set_fault c = told_first _ _ _ c.from_residual.ensures.1 (c.in_err-set_fault.ensures ∙ ap (set_fault c.args.n) c.set_at.ensures)
 
 pub returns : goal.returns
 unfolding rule_of rule_fault
-returns c =
-    let a = c.args in
-    c.first_of.ensures
-    ∙ ap₂ or_else (c.set_fault-set.ensures ∙ ap (set_fault a.n) c.set_at.ensures)
-    (c.positions_fault-positions.ensures ∙ ap (λ (l : List ℕ). positions_fault a.v (take (a.len - 4) l)) (rest_part 4 a.content.now))
+returns c = c.positions_fault.ensures ∙ none_told _ (c.in_ok-set_fault.ensures ∙ ap (set_fault c.args.n) c.set_at.ensures)

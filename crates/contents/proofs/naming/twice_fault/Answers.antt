@@ -1,16 +1,19 @@
 -- `contents::naming::twice_fault` meets its contract: where a position is marked already it is named twice, else the search goes on. Assumes nothing.
-use Rattle.std.proofs.Common.{sym, ◌∙◌, arith}
+use Rattle.std.proofs.Common.{sym, ◌∙◌}
+use Rattle.rules.specs.Fault.{number_of, number_told}
 use Rattle.contents.proofs.NamingLaws.{naming-starts, naming_ends, naming-found, naming_passes}
 use Rattle.contents.proofs.naming.twice_fault.Goals as goal
 
-pub loop-at-init : goal.loop-at-init
-loop-at-init c = naming-starts c.requires
+pub loop-position-init : goal.loop-position-init
+loop-position-init c = naming-starts _ c.requires c.none-seen.ensures
 
-pub returns-then-is_marked : goal.returns-then-is_marked
-returns-then-is_marked c = sym (naming-found c.loop-at.invariant (omega arith) c.requires.there (sym c.is_marked.ensures.result ∙ c.if-is_marked.true))
+pub returns-then-has : goal.returns-then-has
+unfolding number_of number_told
+returns-then-has c = sym (naming-found c.loop-position.invariant c.loop-position-test.true (sym c.has.ensures.result ∙ c.if-has.true))
 
-pub loop-at-preserved : goal.loop-at-preserved
-loop-at-preserved c = naming_passes c.loop-at.invariant (omega arith) c.requires.there (sym c.is_marked.ensures.result ∙ c.if-is_marked.false) c.with_mark-seen.ensures.result
+pub loop-position-preserved : goal.loop-position-preserved
+loop-position-preserved c = naming_passes c.loop-position.invariant c.loop-position-test.true (sym c.has.ensures.result ∙ c.if-has.false) c.with-seen.ensures.result
 
 pub returns : goal.returns
-returns c = sym (naming_ends c.loop-at.invariant (omega arith))
+unfolding number_told
+returns c = sym (naming_ends c.loop-position.invariant c.loop-position-test.false)

@@ -4,8 +4,8 @@ use Rattle.rules.specs.Reading.{reading}
 use Rattle.lines.proofs.PositionLaws.{positions-sound, positions-refused}
 use Rattle.lines.proofs.answer.positions.Goals as goal
 
-pub returns-in-Sound : goal.returns-in-Sound
-returns-in-Sound c = positions-sound (reading c.args.input.now) _ _ (sym c.in-Sound.ensures)
+pub returns-in-Ok : goal.returns-in-Ok
+returns-in-Ok c = positions-sound (reading c.args.input.now) _ _ (sym c.in-Ok.ensures)
 
-pub returns-in-Refused : goal.returns-in-Refused
-returns-in-Refused c = positions-refused (reading c.args.input.now) _ _ (sym c.in-Refused.ensures)
+pub returns-in-Err : goal.returns-in-Err
+returns-in-Err c = positions-refused (reading c.args.input.now) _ _ (sym c.in-Err.ensures)

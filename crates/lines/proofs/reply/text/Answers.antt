@@ -15,7 +15,7 @@ returns-in-0 c =
     let xs = take a.v a.values.now in
     text-shown (text_known a.reply xs c.in-0.is)
     (plan_fits a.reply.splits a.reply.dead_ends xs (omega (arith, length-take a.v a.values.now)))
-    (grown_more (line_of []) _ _ c.first_line.ensures c.values.ensures)
+    (grown_more (line_of []) _ _ c.first_line-text.ensures c.values.ensures)
 
 pub returns-in-1 : goal.returns-in-1
 unfolding text_of bytes_of
@@ -24,7 +24,7 @@ returns-in-1 c = text-shown (text_known c.args.reply (take c.args.v c.args.value
 pub returns-in-2 : goal.returns-in-2
 unfolding text_of bytes_of
 returns-in-2 c =
-    text-shown (text_known c.args.reply (take c.args.v c.args.values.now) c.in-2.is) (first_line_fits (bytes_of "UNDECIDED") _ (omega arith) (omega arith)) c.first_line-in-2.ensures
+    text-shown (text_known c.args.reply (take c.args.v c.args.values.now) c.in-2.is) (first_line_fits (bytes_of "UNDECIDED") _ (omega arith) (omega arith)) c.first_line.ensures
 
 pub returns-in_default : goal.returns-in_default
 unfolding text_of bytes_of

@@ -1,27 +1,36 @@
 -- `lowest::equality::untaken` meets its contract: what each position leaves of the values left, position by position. Assumes nothing.
-use Rattle.std.proofs.Common.{◌-◌, sym, ◌∙◌, arith, get_or}
-use Rattle.lowest.proofs.UntakenLaws.{without_one_computed, without_more, untaken_next, untaken-none, untaken_end}
+use Rattle.std.proofs.Common.{ℕ, ◌≡◌, sym, ap, ◌∙◌, arith, drop_of_length-le}
+use Rattle.lists.proofs.ListLaws.{every_at-place}
+use Rattle.lists.proofs.TakeDrop.{drop_next}
+use Rattle.lists.proofs.TestLaws.{true_test}
+use Rattle.sets.specs.Sets.{is_empty}
+use Rattle.rules.specs.Writing.{PositionFits}
+use Rattle.lowest.specs.Untaken.{without_alone}
+use Rattle.lowest.proofs.UntakenLaws.{without_one_computed, without_more_computed, untaken_next, untaken-none, untaken_end}
 use Rattle.lowest.proofs.equality.untaken.Goals as goal
 use Rattle.lowest.proofs.equality.untaken.Goals.{then-count-eq1, else-count-eq1}
 
-pub returns-then-room-eq0 : goal.returns-then-room-eq0
-returns-then-room-eq0 c = sym (c.loop-i.invariant.1 ∙ untaken-none c.requires c.args.rooms.now c.loop-i.left.mask c.loop-i.i (omega arith) c.if-room-eq0.true)
+pub at-room-requires : goal.at-room-requires
+at-room-requires c = every_at-place (PositionFits _) c.args.positions.now c.loop-p.p-index c.requires c.loop-p-test.true
 
-pub loop-i-preserved : goal.loop-i-preserved
-loop-i-preserved c =
-    let a = c.args in
-    let some = c.if-room-eq0.false in
-    let many = c.count.ensures.result in
-    let room = get_or a.rooms.now (get_or a.positions.now c.loop-i.i 0 - 1) 0 in
-    let left = c.loop-i.left.mask in (
-      omega arith,
-      c.loop-i.invariant.1 ∙
-          untaken_next c.requires a.rooms.now left c.loop-i.i (omega arith)
-          (elim c.if-count-eq1.branch [
-            | then-count-eq1 w ↦ without_one_computed room left some (omega arith) w.complement.ensures.result w.common-left.ensures.result ∙ (cc)
-            | else-count-eq1 w ↦ without_more room left some (λ e. omega (arith, many, w.if-count-eq1.false)) ∙ (cc)
-          ]),
-    )
+pub returns-then-is_empty : goal.returns-then-is_empty
+returns-then-is_empty c =
+    let next = drop_next c.args.positions.now c.loop-p.p-index c.loop-p-test.true in
+    let none = ap is_empty (sym c.at-room.ensures) ∙ sym c.is_empty.ensures.result ∙ c.if-is_empty.true in
+    sym (c.loop-p.invariant.1 ∙ untaken-none c.args.rooms.now.box c.loop-p.left next (true_test _ none))
+
+pub loop-p-preserved : goal.loop-p-preserved
+loop-p-preserved c =
+    let next = drop_next c.args.positions.now c.loop-p.p-index c.loop-p-test.true in
+    let room = c.at-room.result in
+    let left = c.loop-p.left in
+    let some = sym c.is_empty.ensures.result ∙ c.if-is_empty.false in
+    let leaves : without_alone room left ≡ c.if-count-eq1.left =
+    elim c.if-count-eq1.branch [
+      | then-count-eq1 w ↦ without_one_computed room left some (sym c.count.ensures.result ∙ w.if-count-eq1.true) w.complement.ensures.result (w.left-is ∙ w.common-left.ensures.result)
+      | else-count-eq1 w ↦ without_more_computed room left some (λ e. w.if-count-eq1.false (c.count.ensures.result ∙ e)) w.left-is
+    ] in
+    (omega arith, c.loop-p.invariant.1 ∙ untaken_next c.args.rooms.now.box left next (ap (λ (r : ℕ). without_alone r left) (sym c.at-room.ensures) ∙ leaves))
 
 pub returns : goal.returns
-returns c = sym (c.loop-i.invariant.1 ∙ untaken_end c.requires c.args.rooms.now c.loop-i.left.mask c.loop-i.i c.loop-i-test.false)
+returns c = sym (c.loop-p.invariant.1 ∙ untaken_end c.args.rooms.now.box c.loop-p.left (drop_of_length-le c.args.positions.now c.loop-p-test.false))

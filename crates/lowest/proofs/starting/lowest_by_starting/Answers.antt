@@ -1,32 +1,43 @@
 -- `lowest::starting::lowest_by_starting` meets its contract: as the clause of its one atom. Assumes nothing.
-use Rattle.std.proofs.Common.{◌≡◌, ◌≤◌, ℕ, List, sym, inl, inr, arith, drop}
+use Rattle.std.proofs.Common.{◌≡◌, ◌∙◌, ◌<◌, ◌^◌, ℕ, List, sym, ap, arith, length, subst}
+use Rattle.sets.specs.Sets.{inside, meets}
 use Rattle.rules.specs.declared.field.Atom.{Atom}
-use Rattle.rules.specs.Contents.{Atoms}
+use Rattle.rules.specs.Contents.{Atoms, AtomsFit}
 use Rattle.rules.specs.Reading.{atom_of}
-use Rattle.clauses.proofs.AtomsInTurn.{atoms_start, atom_fits}
-use Rattle.lowest.proofs.LiveAtoms.{start_dull, start_shut, start_open}
+use Rattle.rules.proofs.Reading.ContentLaws.{one_atom}
+use Rattle.rules.specs.Writing.{PositionFits}
+use Rattle.lowest.proofs.LiveAtoms.{start_higher, start_apart, start_inside, start_open}
 use Rattle.lowest.proofs.starting.lowest_by_starting.Goals as goal
+use Rattle.lowest.proofs.starting.lowest_by_starting.Goals.{then-not-meets-via-then-not-meets, then-not-meets-via-else-not-meets+then-inside}
 
 -- its one atom is on a position from 1 to v
-position : {v len : ℕ} {content : List ℕ} {a : Atom} → len ≡ 5 → Atoms v len content → a ≡ atom_of (drop 0 content) → (1 ≤ a.position) × (a.position ≤ v)
-position five atoms here = atom_fits (atoms_start atoms) (omega arith) here
+position : {v : ℕ} {content : List ℕ} {a : Atom} → length content ≡ 5 → Atoms v (length content) content → a ≡ atom_of content → PositionFits v a.position
+position {v} {content} five atoms here =
+    subst (λ (b : Atom). PositionFits v b.position) (sym here) (subst (AtomsFit v) (one_atom (length content) content five) atoms.fit).0
 
-pub overflow_sub-p : goal.overflow_sub-p
-overflow_sub-p c = (position c.requires.0 c.requires.1 c.atom_at-atom.ensures).0
+pub overflow_sub-i : goal.overflow_sub-i
+overflow_sub-i c = (position c.requires.0 c.requires.1 c.atom_at-atom.ensures).0
 
-pub bounds-all-p : goal.bounds-all-p
-bounds-all-p c = omega (arith, position c.requires.0 c.requires.1 c.atom_at-atom.ensures, c.requires.1.few)
+pub at-room-requires : goal.at-room-requires
+at-room-requires c = position c.requires.0 c.requires.1 c.atom_at-atom.ensures
 
-pub returns-then-bound-p : goal.returns-then-bound-p
-returns-then-bound-p c = start_dull c.args.rooms.now c.args.bound c.requires.0 c.requires.1 c.atom_at-atom.ensures c.common-met.ensures.result (inl c.if-bound-p.true)
+pub returns-then-bound-i : goal.returns-then-bound-i
+returns-then-bound-i c = start_higher c.args.rooms.now.box c.args.content.now c.args.bound c.atom_at-atom.ensures c.if-bound-i.true
 
-pub returns-then-met-eq0 : goal.returns-then-met-eq0
-returns-then-met-eq0 c = start_dull c.args.rooms.now c.args.bound c.requires.0 c.requires.1 c.atom_at-atom.ensures c.common-met.ensures.result (inr c.if-met-eq0.true)
-
-pub returns-then-settled_united : goal.returns-then-settled_united
-returns-then-settled_united c = start_shut c.args.rooms.now c.args.bound c.requires.0 c.requires.1 c.atom_at-atom.ensures c.common-met.ensures.result (sym c.if-settled_united.ensures)
+pub returns-then-not-meets : goal.returns-then-not-meets
+returns-then-not-meets c =
+    let set = c.atom_at-atom.result.set in
+    elim c.then-not-meets.branch [
+      | then-not-meets-via-then-not-meets w ↦ start_apart c.args.rooms.now.box c.args.content.now c.args.bound c.atom_at-atom.ensures
+          (sym (c.meets.ensures.result ∙ ap (λ (room : ℕ). meets room set) c.at-room.ensures) ∙ w.if-not-meets.true)
+      | then-not-meets-via-else-not-meets+then-inside w ↦ start_inside c.args.rooms.now.box c.args.content.now c.args.bound c.atom_at-atom.ensures
+          (sym (w.inside.ensures.result ∙ ap (λ (room : ℕ). inside room set) c.at-room.ensures) ∙ w.if-inside.true)
+    ]
 
 pub returns : goal.returns
 returns c =
-    start_open c.args.rooms.now c.args.bound c.requires.0 c.requires.1 c.atom_at-atom.ensures c.common-met.ensures.result c.if-bound-p.false c.if-met-eq0.false (c.told-rooms, c.fits-rooms)
-    (sym c.if-settled_united.ensures)
+    let set = c.atom_at-atom.result.set in
+    let mask = subst (λ (room : ℕ). room < 2 ^ 32) c.at-room.ensures (omega (arith, c.at-room.type_inv)) in
+    start_open c.args.rooms.now.box c.args.content.now c.args.bound c.atom_at-atom.ensures (position c.requires.0 c.requires.1 c.atom_at-atom.ensures).0 mask c.if-bound-i.false
+    (sym (c.meets.ensures.result ∙ ap (λ (room : ℕ). meets room set) c.at-room.ensures) ∙ c.if-not-meets.false)
+    (sym (c.inside.ensures.result ∙ ap (λ (room : ℕ). inside room set) c.at-room.ensures) ∙ c.if-inside.false)

@@ -4,4 +4,4 @@ use Rattle.sets.proofs.Counting.{count-at_most}
 use Rattle.planner.proofs.rounds.spare_in.Goals as goal
 
 pub returns : goal.returns
-returns c = let most = count-at_most c.args.mask (omega arith) in (omega (arith, c.count-size.ensures.result), omega (arith, c.count-size.ensures.result))
+returns c = let most = count-at_most c.args.room (omega (arith, c.from.ensures)) in (omega (arith, c.count.ensures.result), omega (arith, c.count.ensures.result))

@@ -4,4 +4,4 @@ use Rattle.searching.proofs.ShrunkBoxes.{open_found}
 use Rattle.searching.proofs.search.+search.Given as goal
 
 abbrev pub decreases-search : goal.decreases-search
-decreases-search l = open_found (found_by l.v l.verdict l.rooms)
+decreases-search l = open_found (found_by l.verdict l.rooms)

@@ -7,8 +7,5 @@ use Rattle.sets.proofs.Room.full.Goals as goal
 pub returns-then-n-lt1 : goal.returns-then-n-lt1
 returns-then-n-lt1 c = full-kept (full_outside c.args.n (λ h. omega arith))
 
-pub returns-then-n-gt-VALUES : goal.returns-then-n-gt-VALUES
-returns-then-n-gt-VALUES c = full-kept (full_outside c.args.n (λ h. omega arith))
-
 pub returns : goal.returns
 returns c = full-kept (full_shifted c.args.n (omega arith) (omega arith))

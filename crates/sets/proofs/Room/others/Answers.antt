@@ -8,4 +8,4 @@ use Rattle.sets.proofs.Room.others.Goals as goal
 pub returns : goal.returns
 returns c =
     let one = c.single-one.ensures.result ∙ ap single c.smallest.ensures.result in
-    others-kept (omega arith) (others_computed c.args.self.mask _ _ _ one c.complement.ensures.result c.common.ensures.result)
+    others-kept (omega arith) (others_computed c.args.self _ _ _ one c.complement.ensures.result c.common.ensures.result)

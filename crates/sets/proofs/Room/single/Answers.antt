@@ -7,8 +7,5 @@ use Rattle.sets.proofs.Room.single.Goals as goal
 pub returns-then-x-lt1 : goal.returns-then-x-lt1
 returns-then-x-lt1 c = single-kept (single_outside c.args.x (λ h. omega arith))
 
-pub returns-then-x-gt-VALUES : goal.returns-then-x-gt-VALUES
-returns-then-x-gt-VALUES c = single-kept (single_outside c.args.x (λ h. omega arith))
-
 pub returns : goal.returns
 returns c = single-kept (single_shifted c.args.x (omega arith) (omega arith))

@@ -1,8 +1,10 @@
 -- `sound::check::header_fault` meets its contract: test by test. Assumes nothing.
 use Rattle.std.proofs.Common.{◌≡◌, sym, ◌∙◌, not, List, ℕ, ◌≤◌, eqb, length, arith}
-use borrow.Author.Tests.{eq-eqb, ne_eqb, lt-ltb, le-ltb}
+use borrow.Author.Tests.{ne_eqb, lt-ltb, le-ltb}
 use Rattle.rules.specs.declared.field.Head.{Head}
+use Rattle.rules.specs.Fault.{number_of, number_told}
 use Rattle.rules.specs.Reading.{fault_if, head_of, header_body_fault, header_fault}
+use Rattle.sound.proofs.HeaderLaws.{tag_is-header, tag_other}
 use Rattle.sound.proofs.check.header_fault.Goals as goal
 
 -- a head that is whole: the tag, then what stands behind it
@@ -10,22 +12,19 @@ tagged : (bytes : List ℕ) {head : Head} → 3 ≤ length bytes → head ≡ he
 unfolding header_fault
 tagged bytes there read = simp (ne_eqb (length bytes) 0 (λ z. omega arith), le-ltb (length bytes) 3 there, read)
 
-pub returns-then-input-eq0 : goal.returns-then-input-eq0
-unfolding header_fault
-returns-then-input-eq0 c = simp (eq-eqb (length c.args.input.now) 0 c.if-input-eq0.true)
+pub returns-then-is_empty-clause-told : goal.returns-then-is_empty-clause-told
+unfolding number_of number_told header_fault
+returns-then-is_empty-clause-told c = simp (sym c.if-is_empty.ensures)
 
-pub returns-then-input-lt3 : goal.returns-then-input-lt3
-unfolding header_fault
-returns-then-input-lt3 c =
-    let bytes = c.args.input.now in
-    simp (ne_eqb (length bytes) 0 c.if-input-eq0.false, lt-ltb (length bytes) 3 c.if-input-lt3.true)
+pub returns-then-input-lt3-clause-told : goal.returns-then-input-lt3-clause-told
+unfolding number_of number_told header_fault
+returns-then-input-lt3-clause-told c = simp (sym c.if-is_empty.ensures, lt-ltb (length c.args.input.now) 3 c.if-input-lt3.true)
 
-pub returns-then-head-ne1 : goal.returns-then-head-ne1
-returns-then-head-ne1 c =
-    let read = c.head_at-head in
-    sym (tagged c.args.input.now (omega arith) read.ensures ∙ simp (ne_eqb read.result.tag 1 c.if-head-ne1.true))
+pub returns-in_default-clause-told : goal.returns-in_default-clause-told
+unfolding number_of number_told
+returns-in_default-clause-told c = sym (tagged c.args.input.now (omega arith) c.head_at-head.ensures ∙ simp (tag_other c.head_at-head.result.tag c.from.ensures c.in_default.not-Header))
 
-pub returns : goal.returns
-returns c =
-    let read = c.head_at-head in
-    c.header_body_fault.ensures ∙ sym (tagged c.args.input.now (omega arith) read.ensures ∙ simp (eq-eqb read.result.tag 1 c.if-head-ne1.false))
+pub returns-clause-told : goal.returns-clause-told
+returns-clause-told c =
+    c.header_body_fault.ensures.told
+    ∙ sym (tagged c.args.input.now (omega arith) c.head_at-head.ensures ∙ simp (tag_is-header c.head_at-head.result.tag c.from.ensures c.in-Header.is))

@@ -1,15 +1,16 @@
--- `texts::Text::word` meets its contract: one byte more of the word is added, and at its end none is left. Assumes nothing.
-use Rattle.std.proofs.Common.{[], ◌∷◌, ◌+◌, get_or, drop, arith}
-use lib.ListN.{drop_of_length-le}
-use Rattle.lists.proofs.TakeDrop.{drop_next}
-use Rattle.texts.proofs.GrownLaws.{grown_left, grown_all}
+-- `texts::Text::word` meets its contract: one byte more of the word is added, until all are. Assumes nothing.
+use Rattle.std.proofs.Common.{refl, sym, [], ◌∷◌, get_or, take}
+use Rattle.std.proofs.lemmas.List.{take_more}
+use Rattle.texts.specs.Grown.{grown}
+use Rattle.texts.proofs.GrownLaws.{grown_whole}
 use Rattle.texts.proofs.Text.word.Goals as goal
 
-pub loop-at-preserved : goal.loop-at-preserved
-loop-at-preserved c =
-    let xs = c.args.word.now in
-    let at = c.loop-at.at in
-    (omega arith, grown_left c.loop-at.text (get_or xs at 0 ∷ []) (drop (at + 1) xs) (drop_next xs at (omega arith)) c.byte-text.ensures c.loop-at.invariant.1)
+pub loop-b-init : goal.loop-b-init
+unfolding grown
+loop-b-init c = refl
 
-pub returns : goal.returns
-returns c = grown_all c.loop-at.text (drop_of_length-le c.args.word.now {i = c.loop-at.at} (omega arith)) c.loop-at.invariant.1
+pub loop-b-preserved : goal.loop-b-preserved
+loop-b-preserved c =
+    let word = c.args.word.now in
+    let i = c.loop-b.b-index in
+    grown_whole c.args.self.now (take i word) (get_or word i 0 ∷ []) (sym (take_more word i 0 c.loop-b-test.true)) c.loop-b.invariant c.byte.ensures

@@ -1,5 +1,0 @@
--- `small_files::drawn::ladder` ends: the measure is how many values are left. Assumes nothing.
-use Rattle.small_files.proofs.drawn.ladder.Given as goal
-
-abbrev pub decreases-loop-left : goal.decreases-loop-left
-decreases-loop-left l = l.left

@@ -1,6 +1,0 @@
--- `small_files::meaning::meets` ends: the measure is what is left of the file. Assumes nothing.
-use Rattle.std.proofs.Common.{◌-◌, length}
-use Rattle.small_files.proofs.meaning.meets.Given as goal
-
-abbrev pub decreases-loop-at : goal.decreases-loop-at
-decreases-loop-at l = length l.file - l.at

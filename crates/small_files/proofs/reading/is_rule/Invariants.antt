@@ -1,6 +1,0 @@
--- `small_files::reading::is_rule` ends: the measure is what is left of the file. Assumes nothing.
-use Rattle.std.proofs.Common.{◌-◌, length}
-use Rattle.small_files.proofs.reading.is_rule.Given as goal
-
-abbrev pub decreases-loop-at : goal.decreases-loop-at
-decreases-loop-at l = length l.file - l.at
