@@ -13,7 +13,7 @@ use std::marker::Model;
 // for value 32.
 #[derive(Clone, Copy, PartialEq, Eq)]
 pub struct Room {
-    mask: u32,
+    pub mask: u32,
 }
 
 impl Model for Room {
