@@ -1,33 +1,39 @@
 // The atoms of a content, gone through one after another. The contracts cite specs/Each.antt.
-ghost use Rattle.std.specs.Prelude.{◌≡◌};
+ghost use Rattle.std.specs.Prelude.{◌≡◌, ◌≤◌, length, drop};
 ghost use Rattle.std.specs.Iterator.{YieldsFirst, item_count};
 ghost use Rattle.rules.specs.Each.{atoms_in};
 
 use super::field::{Atom, atom_at};
 use std::marker::Model;
 
-// The atoms that are still to come. Contracts see them as the list of these.
+// The atoms that are still to come: those from an index on. Contracts see them as the list of these.
 #[derive(Drop)]
 pub struct EachAtom<'a> {
     bytes: &'a [u8],
+    at: usize,
 }
 
 impl<'a> Model for EachAtom<'a> {
-    ghost use Rattle.std.specs.Prelude.{List};
+    ghost use Rattle.std.specs.Prelude.{List, ◌≤◌, length, drop};
     ghost use Rattle.rules.specs.declared.field.Atom.{Atom};
 
     ghost Value = { List Atom };
 
     ghost use Rattle.rules.specs.Each.{atoms_in};
 
-    ghost view = { λ atoms. atoms_in atoms.bytes.now };
+    ghost view = { λ atoms. atoms_in (drop atoms.at atoms.bytes.now) };
+
+    ghost invariant = { λ atoms. atoms.at ≤ length atoms.bytes.now };
 }
 
 // All atoms of a content; bytes behind the last whole one are left out.
 pub fn atoms(content: &[u8]) -> EachAtom<'_>
     ensures { result ≡ atoms_in content.now }
 {
-    EachAtom { bytes: content }
+    EachAtom {
+        bytes: content,
+        at: 0,
+    }
 }
 
 impl<'a> Iterator for EachAtom<'a> {
@@ -38,8 +44,12 @@ impl<'a> Iterator for EachAtom<'a> {
     ghost remaining = { item_count (λ atoms. atoms) };
 
     fn next(&mut self) -> Option<Atom> {
-        let (first, others) = self.bytes.split_at_checked(5)?;
-        self.bytes = others;
-        Some(atom_at(first, 0))
+        let end = self.at + 5;
+        if self.bytes.len() < end {
+            return None;
+        }
+        let atom = atom_at(self.bytes, self.at);
+        self.at = end;
+        Some(atom)
     }
 }

@@ -1,5 +1,5 @@
 // The fields of a file, gone through one after another. The contracts cite specs/Each.antt.
-ghost use Rattle.std.specs.Prelude.{◌≡◌, ◌+◌, ◌<◌, ◌^◌, length};
+ghost use Rattle.std.specs.Prelude.{◌≡◌, ◌+◌, ◌≤◌, length, drop};
 ghost use Rattle.std.specs.Iterator.{YieldsFirstBy, item_count};
 ghost use Rattle.rules.specs.Each.{Framed, frames_in};
 
@@ -14,22 +14,22 @@ pub struct FieldBytes<'a> {
     pub content: &'a [u8],
 }
 
-// The fields that are still to come, and the place of the first. Contracts see them as the list of these.
+// The fields that are still to come: those from a place on. Contracts see them as the list of these.
 #[derive(Drop)]
 pub struct EachField<'a> {
-    place: usize,
-    bytes: &'a [u8],
+    input: &'a [u8],
+    at: usize,
 }
 
 impl<'a> Model for EachField<'a> {
-    ghost use Rattle.std.specs.Prelude.{List, ◌+◌, ◌<◌, ◌^◌, length};
+    ghost use Rattle.std.specs.Prelude.{List, ◌+◌, ◌≤◌, length, drop};
     ghost use Rattle.rules.specs.Each.{Framed, frames_from};
 
     ghost Value = { List Framed };
 
-    ghost view = { λ fields. frames_from fields.place fields.bytes.now };
+    ghost view = { λ fields. frames_from fields.at (drop fields.at fields.input.now) };
 
-    ghost invariant = { λ fields. fields.place + length fields.bytes.now < 2 ^ 64 };
+    ghost invariant = { λ fields. fields.at ≤ length fields.input.now + 5 };
 }
 
 // All fields behind the header of a file. They end where no field stands whole, so that of a sound file there
@@ -37,10 +37,7 @@ impl<'a> Model for EachField<'a> {
 pub fn fields(input: &[u8]) -> EachField<'_>
     ensures { result ≡ frames_in input.now }
 {
-    EachField {
-        place: 5,
-        bytes: input.get(5..).unwrap_or(&[]),
-    }
+    EachField { input, at: 5 }
 }
 
 impl<'a> Iterator for EachField<'a> {
@@ -51,18 +48,21 @@ impl<'a> Iterator for EachField<'a> {
     ghost remaining = { item_count (λ fields. fields) };
 
     fn next(&mut self) -> Option<FieldBytes<'a>> {
-        if self.bytes.len() < 3 {
+        let from = self.at + 3;
+        if self.input.len() < from {
             return None;
         }
-        let head = head_at(self.bytes, 0);
-        let (content, others) = self.bytes[3..].split_at_checked(head.length)?;
+        let head = head_at(self.input, self.at);
+        if self.input.len() - from < head.length {
+            return None;
+        }
+        let end = from + head.length;
         let field = FieldBytes {
-            place: self.place,
+            place: self.at,
             kind: Tag::from(head.tag),
-            content,
+            content: &self.input[from..end],
         };
-        self.place += 3 + head.length;
-        self.bytes = others;
+        self.at = end;
         Some(field)
     }
 }

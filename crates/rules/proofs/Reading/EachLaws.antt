@@ -1,4 +1,4 @@
--- Laws of the atoms of a content and of the fields of a file in turn: where no whole one is left, `atoms_short`, `frames_short` and `frame_cut_off`, and the first and the others, `atoms_first` and `frames_first`. Assumes nothing.
+-- Laws of the atoms of a content and of the fields of a file in turn: where no whole one is left, `atoms_short`, `frames_short` and `frame_cut_off`, and the first and the others, `atoms_first`, `frames_first`, and from a place on `atoms_at` and `frame_taken`. Assumes nothing.
 use mathlib.Core.Path.{◌≡◌, refl, sym, ap, ap₂, ◌∙◌}
 use mathlib.Core.Logic.{⊎_elim}
 use mathlib.Core.List.{List, [], ◌∷◌}
@@ -8,9 +8,7 @@ use lib.ListN.{length, get_or, take, drop, length-drop}
 use lib.Dec.{T, leb, not_T}
 use lib.Seq.{get_or-take, drop-drop}
 use mathlib.Core.Bool.{Bool, cond}
-use Rattle.lists.proofs.TakeDrop.{rest_part}
 use Rattle.lists.proofs.TestLaws.{both_hold, le_holds, test_cases, test_true, fails_false}
-use Rattle.std.specs.List.{IsSplitAt}
 use Rattle.rules.specs.declared.field.Atom.{Atom}
 use Rattle.rules.specs.declared.field.Head.{Head}
 use Rattle.rules.specs.declared.field.Tag.{Tag}
@@ -38,6 +36,12 @@ atoms_first bytes h =
   where
     more : length bytes / 5 ≡ suc (length (drop 5 bytes) / 5)
     more = omega (arith, length-drop 5 bytes)
+
+-- the first atom from a place on, and the others
+pub atoms_at : (bytes : List ℕ) (at : ℕ) → at + 5 ≤ length bytes → atoms_in (drop at bytes) ≡ atom_of (drop at bytes) ∷ atoms_in (drop (at + 5) bytes)
+atoms_at bytes at h =
+    atoms_first (drop at bytes) (omega (arith, length-drop at bytes))
+    ∙ ap₂ (λ (a : Atom) (bs : List ℕ). a ∷ atoms_in bs) (atom_front (drop at bytes)) (drop-drop 5 at bytes)
 
 -- ---- fields
 
@@ -85,12 +89,13 @@ enough (suc j) (suc k) place bytes few many =
 pub frames_short : (place : ℕ) (bytes : List ℕ) → length bytes < 3 → frames_from place bytes ≡ []
 frames_short place bytes h = on_none (length bytes) place bytes (λ t. let there = whole_there bytes t in omega arith)
 
--- a head announces more bytes than are left
-pub frame_cut_off : (place : ℕ) (bytes : List ℕ) {head : Head} → head ≡ head_of bytes → length (take (length bytes - 3) (drop 3 bytes)) < head.length → frames_from place bytes ≡ []
+-- the head at a place announces more bytes than are left behind it
+pub frame_cut_off : (input : List ℕ) (at : ℕ) {head : Head} → head ≡ head_of (drop at input) → length input - (at + 3) < head.length → frames_from at (drop at input) ≡ []
 unfolding size_of
-frame_cut_off place bytes {head} here cut =
+frame_cut_off input at {head} here cut =
+    let bytes = drop at input in
     let len : head.length ≡ (head_of bytes).length = ap (λ (h : Head). h.length) here in
-    on_none (length bytes) place bytes (λ t. let there = whole_there bytes t in omega (arith, there, len, ap length (rest_part 3 bytes), length-drop 3 bytes))
+    on_none (length bytes) at bytes (λ t. let there = whole_there bytes t in omega (arith, there, len, length-drop at input))
 
 -- the first field, and the others
 pub frames_first : (place : ℕ) (bytes : List ℕ) → 3 ≤ length bytes → (head_of bytes).length ≤ length (drop 3 bytes)
@@ -105,19 +110,22 @@ frames_first place bytes head content =
     (enough (length bytes - 1) (length (drop (size_of bytes) bytes)) (place + size_of bytes) (drop (size_of bytes) bytes)
     (omega (arith, length-drop (size_of bytes) bytes)) (omega arith))
 
--- a field was taken from the front: its head was read, and its content split off behind that
-pub frame_taken : (place : ℕ) (bytes content others : List ℕ) {left : List Framed} {head : Head} {kind : Tag} → frames_from place bytes ≡ left → 3 ≤ length bytes
-    → head ≡ head_of bytes → IsSplitAt (take (length bytes - 3) (drop 3 bytes)) head.length content others → kind ≡ tag_of head.tag
-    → left ≡ record { place = place; kind = kind; content = content } ∷ frames_from (place + (3 + head.length)) others
+-- a field was taken at a place: its head was read, and its content is what follows that
+pub frame_taken : (input : List ℕ) (at : ℕ) {left : List Framed} {head : Head} {kind : Tag} → frames_from at (drop at input) ≡ left → at + 3 ≤ length input
+    → head ≡ head_of (drop at input) → head.length ≤ length input - (at + 3) → kind ≡ tag_of head.tag
+    → left
+    ≡ record { place = at; kind = kind; content = take (at + 3 + head.length - (at + 3)) (drop (at + 3) input) } ∷ frames_from (at + 3 + head.length) (drop (at + 3 + head.length) input)
 unfolding frame_of size_of content_of
-frame_taken place bytes content others {head = head} view long here (there, front, behind, _, _) is =
-    let rest = rest_part 3 bytes in
+frame_taken input at {head = head} view long here there is =
+    let bytes = drop at input in
     let len : head.length ≡ (head_of bytes).length = ap (λ (h : Head). h.length) here in
-    sym view ∙ frames_first place bytes long (omega (arith, there, ap length rest, len))
+    let end : at + (3 + (head_of bytes).length) ≡ at + 3 + head.length = omega (arith, len) in
+    let part : (head_of bytes).length ≡ at + 3 + head.length - (at + 3) = omega (arith, len) in
+    sym view ∙ frames_first at bytes (omega (arith, length-drop at input)) (omega (arith, len, length-drop 3 bytes, length-drop at input))
     ∙ ap₂ (λ (f : Framed) (fs : List Framed). f ∷ fs)
     (λ i. record {
-      place = place;
+      place = at;
       kind = (sym (is ∙ ap (λ (h : Head). tag_of h.tag) here)) i;
-      content = (sym (front ∙ ap₂ take len rest)) i;
+      content = (ap₂ take part (drop-drop 3 at input)) i;
     })
-    (ap₂ frames_from (ap (λ (k : ℕ). place + (3 + k)) (sym len)) (sym (behind ∙ ap₂ drop len rest ∙ drop-drop (head_of bytes).length 3 bytes)))
+    (ap₂ frames_from end (drop-drop (3 + (head_of bytes).length) at input ∙ ap (λ (k : ℕ). drop k input) end))
