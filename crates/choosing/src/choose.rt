@@ -24,6 +24,9 @@ fn first_wide(rooms: &Rooms) -> Option<usize>
 // cut is settled. Where the set of one atom shows a clause settled, its field is left at once, and
 // the sets are united only where a lower index depends on it. No index below the first room with two
 // or more values can come: where that is found the scan is over.
+// It stays a call of its own: taken into `search`, the half that is made there would be cleared first, by a call of memset
+// that a program in C would have to bring.
+#[inline(never)]
 pub fn choose(input: &[u8], rooms: &Rooms) -> Option<usize>
     requires { SoundInput input.now (length rooms.now.box) }
     ensures { Chooses input.now rooms.now result }

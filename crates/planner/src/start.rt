@@ -26,6 +26,9 @@ fn start_field(field: FieldBytes<'_>, rooms: &mut Rooms)
 }
 
 // The rooms at the start, by one walk over a sound file of so many positions and of values 1 to n.
+// It is taken into its two callers: as a call of its own, what it answers would be cleared first, by a call of memset that a
+// program in C would have to bring.
+#[inline(always)]
 pub(crate) fn start_rooms(input: &[u8], positions: usize, n: u32) -> Rooms
     requires { SoundInput input.now positions }
     ensures { result ≡ record { box = starts_by (file_of (reading input.now)).rules (start_box positions n); rest = start_box (64 - positions) n } }
