@@ -27,8 +27,8 @@ loop-p-preserved c =
     let some = sym c.is_empty.ensures.result ∙ c.if-is_empty.false in
     let leaves : without_alone room left ≡ c.if-count-eq1.left =
     elim c.if-count-eq1.branch [
-      | then-count-eq1 w ↦ without_one_computed room left some (sym c.count.ensures.result ∙ w.if-count-eq1.true) w.complement.ensures.result (w.left-is ∙ w.common-left.ensures.result)
-      | else-count-eq1 w ↦ without_more_computed room left some (λ e. w.if-count-eq1.false (c.count.ensures.result ∙ e)) w.left-is
+      | then-count-eq1 w ↦ without_one_computed room left some (omega arith) w.complement.ensures.result (w.left-is ∙ w.common-left.ensures.result)
+      | else-count-eq1 w ↦ without_more_computed room left some (λ e. omega arith) w.left-is
     ] in
     (omega arith, c.loop-p.invariant.1 ∙ untaken_next c.args.rooms.now.box left next (ap (λ (r : ℕ). without_alone r left) (sym c.at-room.ensures) ∙ leaves))
 
