@@ -1,6 +1,7 @@
 -- `choosing::choose::choose` meets its contract: field by field, and in a clause atom by atom. Assumes nothing.
 use Rattle.std.proofs.Common.{◌<◌, ◌^◌, ℕ, ◌≡◌, refl, ◌∙◌, sym, ap, subst, inl, inr, arith, rules, List, length}
 use mathlib.Core.Path.{ap₂}
+use mathlib.Core.Bool.{true, false}
 use lib.Dec.{T}
 use Rattle.lists.proofs.TestLaws.{true_test}
 use Rattle.rules.specs.declared.field.Tag.{Tag}
@@ -8,6 +9,7 @@ use Rattle.rules.specs.declared.field.Tag.TheVariants.{Clause}
 use Rattle.rules.specs.Reading.{rule_of}
 use Rattle.rules.specs.Sound.{fields_in}
 use Rattle.sets.specs.Sets.{meets}
+use Rattle.steps.specs.Boxes.{room_at}
 use Rattle.steps.specs.Search.{chosen}
 use Rattle.clauses.proofs.SettledClauses.{set_settles}
 use Rattle.lowest.specs.LowestBy.{lowest_by}
@@ -30,7 +32,7 @@ returns-in_err-first c =
 
 pub fields-init : goal.fields-init
 fields-init c =
-    subst (FieldsLeft c.args.input.now c.args.rooms.now.box c.into_iter-field-iterator.result) (sym c.positions-best.ensures)
+    subst (FieldsLeft c.args.input.now c.args.rooms.now.box c.into_iter-field-iterator.result) (omega arith)
     (fields_left_start c.requires (c.into_iter-field-iterator.ensures.into_iter_gives ∙ c.fields-field-items.ensures))
 
 pub fields-preserved-then-ne : goal.fields-preserved-then-ne
@@ -45,15 +47,15 @@ fields-preserved-then-inside c =
 
 pub loop-atom-preserved-then-meets : goal.loop-atom-preserved-then-meets
 loop-atom-preserved-then-meets c =
-    atoms_left_lower c.loop-atom.invariant c.in-Some-atom.ensures.steps (subst (λ (room : ℕ). room < 2 ^ 32) c.at-room.ensures (omega (arith, c.at-room.type_inv))) c.if-i-low.true
-    (subst (λ (room : ℕ). T (meets room c.in-Some-atom.atom.set)) c.at-room.ensures (true_test _ (sym c.meets.ensures.result ∙ c.if-meets.true)))
+    let met : meets (room_at c.args.rooms.now.box c.in-Some-atom.atom.position) c.in-Some-atom.atom.set ≡ true = search rules in
+    atoms_left_lower c.loop-atom.invariant c.in-Some-atom.ensures.steps (subst (λ (room : ℕ). room < 2 ^ 32) c.at-room.ensures (omega (arith, c.at-room.type_inv))) (omega arith) (true_test _ met)
 
 pub loop-atom-preserved : goal.loop-atom-preserved
 loop-atom-preserved c =
     atoms_left_on c.loop-atom.invariant c.in-Some-atom.ensures.steps (subst (λ (room : ℕ). room < 2 ^ 32) c.at-room.ensures (omega (arith, c.at-room.type_inv)))
     (elim c.else-i-low.branch [
-      | else-i-low-via-then-i-low+else-meets w ↦ inr (λ t. subst T (sym w.meets.ensures.result ∙ w.if-meets.false) (subst (λ (room : ℕ). T (meets room c.in-Some-atom.atom.set)) (sym c.at-room.ensures) t))
-      | else-i-low-via-else-i-low w ↦ inl w.if-i-low.false
+      | else-i-low-via-then-i-low+else-meets w ↦ let unmet : meets (room_at c.args.rooms.now.box c.in-Some-atom.atom.position) c.in-Some-atom.atom.set ≡ false = search rules in inr (λ t. subst T unmet t)
+      | else-i-low-via-else-i-low w ↦ inl (omega arith)
     ])
 
 pub fields-preserved-then-not-settled_united : goal.fields-preserved-then-not-settled_united
@@ -80,4 +82,4 @@ returns c =
       | in-Some+then-best-first w ↦ fields_left_narrow c.fields.invariant (omega (arith, w.if-best-first.true, index-found (length c.args.rooms.now.box) (first_wide c.args.rooms.now.box) c.in_ok-first.ensures))
     ]
     in
-    c.then_some.ensures ∙ ap₂ index_below c.positions.ensures best
+    c.then_some.ensures ∙ ap₂ index_below (omega arith) best
