@@ -1,5 +1,5 @@
 -- `boxes::shrink::look_field` meets its contract: a look at a clause or a starting set is one at its rule. Assumes nothing.
-use Rattle.std.proofs.Common.{ℕ, List, ◌≡◌, subst, length}
+use Rattle.std.proofs.Common.{ℕ, List, ◌≡◌, subst, length, rules}
 use Rattle.rules.specs.declared.field.Tag.{Tag}
 use Rattle.rules.specs.declared.field.Tag.TheVariants.{Starting}
 use Rattle.rules.specs.Contents.{ContentFits}
@@ -16,4 +16,4 @@ returns-in-Clause c = look_clause-of c.args.field.content.now c.in-Clause.is c.l
 pub returns-in-Starting : goal.returns-in-Starting
 returns-in-Starting c =
     let f = c.args.field in
-    look_start-of f.content.now c.in-Starting.is (five f.kind (length c.args.rooms.now.box) f.content.now c.requires c.in-Starting.is) c.look_atoms-in-Starting.ensures.leaves
+    look_start-of f.content.now c.in-Starting.is (five f.kind (length c.args.rooms.now.box) f.content.now c.requires c.in-Starting.is) (search rules)
