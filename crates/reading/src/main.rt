@@ -16,9 +16,7 @@ mod line;
 mod list;
 mod long;
 
-use std::io;
-
-fn main(rt: HostRuntime) -> io::Result<()> {
-    list::all(&rt)?;
-    long::all(&rt)
+fn main(rt: HostRuntime) {
+    list::all(&rt, &mut rt.stdin());
+    long::all(&rt);
 }
