@@ -3,17 +3,16 @@
 // dictionary order, or to NONE. With a larger allowance a PLAN or NONE stays with all that it says. In a file of
 // several fields each stands on a line, and the one that was added on the last.
 use super::line::{Example, USUAL, show_all};
-use std::io;
+use arrayvec::ArrayVec;
 
 // All of them, in this order.
-pub(crate) fn all(rt: &(impl Print + AllocGlobal)) -> io::Result<()> {
-    show_all(rt, &NONE_AND_UNDECIDED)?;
-    show_all(rt, &NONE_AT_ANOTHER_PLACE)?;
-    show_all(rt, &PLAN_WITH_MORE_SPLITS)?;
+pub(crate) fn all(rt: &impl Print) {
+    show_all(rt, &NONE_AND_UNDECIDED);
+    show_all(rt, &NONE_AT_ANOTHER_PLACE);
+    show_all(rt, &PLAN_WITH_MORE_SPLITS);
     for (name, field) in &FIELDS {
-        show_added(rt, name, field)?;
+        show_added(rt, name, field);
     }
-    Ok(())
 }
 
 // The file of `added-none-undecided`, which is shown with the most splits too.
@@ -130,13 +129,17 @@ const FIELDS: [(&str, &[u8]); 12] = [
 ];
 
 // Shows the same file with a field added at its end, at 26, and with the most splits allowed.
-fn show_added(rt: &(impl Print + AllocGlobal), name: &str, field: &[u8]) -> io::Result<()> {
-    let file = [PLANS, field].concat(rt.alloc())?;
+fn show_added(rt: &impl Print, name: &str, field: &[u8]) {
+    // Room for the 26 bytes of that file, and for a field, of which none has more than 10.
+    let mut file = ArrayVec::<u8, 36>::new();
+    for part in [PLANS, field] {
+        let _ = file.try_extend_from_slice(part);
+    }
     let example = Example {
         name,
         file: &file,
         positions: Some(2),
         ..USUAL
     };
-    example.show(rt)
+    example.show(rt);
 }

@@ -3,21 +3,20 @@
 // too. More than k are dead, and exactly k cut all others that meet the set down to the values outside. It
 // is settled where at most k rooms meet the set. In a file of several fields each stands on a line.
 use super::line::{Example, USUAL, show_all, show_most};
-use std::io;
 
 // All of them, in this order.
-pub(crate) fn all(rt: &impl Print) -> io::Result<()> {
-    show_all(rt, &LOOKS)?;
-    show_all(rt, &NOT_CUT)?;
-    show_all(rt, &DEAD)?;
-    show_all(rt, &DEAD_OTHERWISE)?;
-    show_all(rt, &AT_MOST_NONE)?;
-    show_all(rt, &ALWAYS_MET)?;
-    show_all(rt, &INSIDE_AND_LIVE)?;
-    show_all(rt, &NOT_LIVE)?;
-    show_all(rt, &LOWEST_LIVE)?;
-    all_positions(rt)?;
-    rounds(rt)
+pub(crate) fn all(rt: &impl Print) {
+    show_all(rt, &LOOKS);
+    show_all(rt, &NOT_CUT);
+    show_all(rt, &DEAD);
+    show_all(rt, &DEAD_OTHERWISE);
+    show_all(rt, &AT_MOST_NONE);
+    show_all(rt, &ALWAYS_MET);
+    show_all(rt, &INSIDE_AND_LIVE);
+    show_all(rt, &NOT_LIVE);
+    show_all(rt, &LOWEST_LIVE);
+    all_positions(rt);
+    rounds(rt);
 }
 
 // The file of `at-most-two-buses`, which is shown with allowance 0 too.
@@ -297,7 +296,7 @@ const LOWEST_LIVE: [Example; 2] = [
 // v 64, n 2: at most 1 of all 64 positions in {1}. Position 1 alone at 1 cuts all others: PLAN 1, and 63 times
 // 2, with 1 split. At most 63 of them: the positions 1 to 63 are split in turn, and then 64 is cut: PLAN 63
 // times 1, and 2, with 63 splits.
-fn all_positions(rt: &impl Print) -> io::Result<()> {
+fn all_positions(rt: &impl Print) {
     let mut file = *b"\x01\0\x02\x40\x02\
       \x05\0\x45\x01\0\0\0\x01\
       \x01\x02\x03\x04\x05\x06\x07\x08\x09\x0a\x0b\x0c\x0d\x0e\x0f\x10\
@@ -310,7 +309,7 @@ fn all_positions(rt: &impl Print) -> io::Result<()> {
         positions: Some(64),
         ..USUAL
     };
-    one.show(rt)?;
+    one.show(rt);
     file[8] = 63;
     let all_but_one = Example {
         name: "at-most-63-of-64",
@@ -318,13 +317,13 @@ fn all_positions(rt: &impl Print) -> io::Result<()> {
         positions: Some(64),
         ..USUAL
     };
-    all_but_one.show(rt)
+    all_but_one.show(rt);
 }
 
 // v 3, n 2: at most 1 of 2 and 3 in {2}, and none of 1 and 2 in {1}. The first round cuts rooms 1 and 2 to {2}
 // in one look, the second room 3 to {1}, and the third changes nothing: PLAN 2 2 1, and 3 rounds. The most that
 // there may be is 4. It is 0 where a position is named twice.
-fn rounds(rt: &impl Print) -> io::Result<()> {
+fn rounds(rt: &impl Print) {
     let file = b"\x01\0\x02\x03\x02\
       \x05\0\x07\x01\0\0\0\x02\x02\x03\
       \x05\0\x07\0\0\0\0\x01\x01\x02";
@@ -335,11 +334,11 @@ fn rounds(rt: &impl Print) -> io::Result<()> {
         positions: Some(3),
         ..USUAL
     };
-    example.show(rt)?;
-    show_most(rt, "at-most-most", file)?;
+    example.show(rt);
+    show_most(rt, "at-most-most", file);
     show_most(
         rt,
         "at-most-most-36",
         b"\x01\0\x02\x02\x02\x05\0\x07\x01\0\0\0\x01\x01\x01",
-    )
+    );
 }

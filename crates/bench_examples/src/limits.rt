@@ -1,15 +1,14 @@
 // Inputs, buffers and allowances at their limits and one past them, and the order in which these
 // are refused.
 use super::line::{Example, MOST, USUAL, show_all};
-use std::io;
 
 // All of them, in this order.
-pub(crate) fn all(rt: &impl Print) -> io::Result<()> {
-    input_length(rt)?;
-    show_all(rt, &BUFFERS_AND_ALLOWANCES)?;
-    long_inputs(rt)?;
-    show_all(rt, &SHORT_BUFFERS)?;
-    show_all(rt, &HIGH_ALLOWANCES)
+pub(crate) fn all(rt: &impl Print) {
+    input_length(rt);
+    show_all(rt, &BUFFERS_AND_ALLOWANCES);
+    long_inputs(rt);
+    show_all(rt, &SHORT_BUFFERS);
+    show_all(rt, &HIGH_ALLOWANCES);
 }
 
 // A file of v 1 and n 32, and a clause whose length is 127 times 256 and this low byte. Every byte not named
@@ -26,7 +25,7 @@ pub(crate) fn clause_of_ones<const BYTES: usize>(low: u8) -> [u8; BYTES] {
 
 // A sound file of 32,768 bytes, the most that there may be, with 6552 atoms; and in front of it the same with
 // one byte more.
-fn input_length(rt: &impl Print) -> io::Result<()> {
+fn input_length(rt: &impl Print) {
     let examples = [
         Example {
             name: "input-32769",
@@ -41,7 +40,7 @@ fn input_length(rt: &impl Print) -> io::Result<()> {
             ..USUAL
         },
     ];
-    show_all(rt, &examples)
+    show_all(rt, &examples);
 }
 
 // Buffers about the shortest that is long enough, and an allowance above the highest.
@@ -79,7 +78,7 @@ const BUFFERS_AND_ALLOWANCES: [Example; 4] = [
 ];
 
 // An input that is too long is told before all else; all its bytes are 0.
-fn long_inputs(rt: &impl Print) -> io::Result<()> {
+fn long_inputs(rt: &impl Print) {
     let file = [0; 32769];
     let examples = [
         Example {
@@ -102,7 +101,7 @@ fn long_inputs(rt: &impl Print) -> io::Result<()> {
             ..USUAL
         },
     ];
-    show_all(rt, &examples)
+    show_all(rt, &examples);
 }
 
 // A buffer that is too short is told before the allowance and before what the file has. The empty

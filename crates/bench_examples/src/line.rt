@@ -4,8 +4,7 @@ use lines::answer::answer;
 use planner::plan::plan;
 use planner::rounds::rounds_most;
 use searching::reply::Reply;
-use std::io::Write;
-use std::{array, fmt, io};
+use std::{array, fmt};
 
 // The most splits that may be allowed.
 pub(crate) const MOST: u64 = 1_000_000;
@@ -39,11 +38,11 @@ pub(crate) const USUAL: Example = Example {
 
 impl Example<'_> {
     // Calls `plan` and prints the line, which starts with the name. Behind it stands what the program prints for
-    // the file.
-    pub(crate) fn show(&self, rt: &impl Print) -> io::Result<()> {
-        println!(rt; "{} {}", self.name, self.planned())?;
+    // the file. What cannot be written is passed over.
+    pub(crate) fn show(&self, rt: &impl Print) {
+        let _ = println!(rt; "{} {}", self.name, self.planned());
         let output = answer(self.file);
-        io::writer(rt).write_all(output.printed.as_bytes())
+        let _ = rt.write_all(output.printed.as_bytes());
     }
 
     // What `plan` replies, and what it leaves in the buffer.
@@ -106,16 +105,16 @@ impl fmt::Display for Planned {
 }
 
 // Shows examples, in their order.
-pub(crate) fn show_all(rt: &impl Print, examples: &[Example<'_>]) -> io::Result<()> {
+pub(crate) fn show_all(rt: &impl Print, examples: &[Example<'_>]) {
     for example in examples {
-        example.show(rt)?;
+        example.show(rt);
     }
-    Ok(())
 }
 
-// Prints a line with the name and the most rounds of a file, by `rounds_most`.
-pub(crate) fn show_most(rt: &impl Print, name: &str, file: &[u8]) -> io::Result<()> {
-    println!(rt; "{name} {}", rounds_most(file))
+// Prints a line with the name and the most rounds of a file, by `rounds_most`. One that cannot be written is
+// passed over.
+pub(crate) fn show_most(rt: &impl Print, name: &str, file: &[u8]) {
+    let _ = println!(rt; "{name} {}", rounds_most(file));
 }
 
 // The byte at a place of the buffer before the call: 200 to 249 in turn, none of them a value.

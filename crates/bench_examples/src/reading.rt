@@ -1,13 +1,12 @@
 // 01's examples of reading, and those of at-most rules (02, R-12): what is refused in a file, and what is not.
 use super::line::{Example, USUAL, show_all};
-use std::io;
 
 // All of them, in this order.
-pub(crate) fn all(rt: &impl Print) -> io::Result<()> {
-    show_all(rt, &HEADERS)?;
-    show_all(rt, &RULES)?;
-    show_all(rt, &AT_MOST_RULES)?;
-    show_all(rt, &AT_MOST_POSITIONS)
+pub(crate) fn all(rt: &impl Print) {
+    show_all(rt, &HEADERS);
+    show_all(rt, &RULES);
+    show_all(rt, &AT_MOST_RULES);
+    show_all(rt, &AT_MOST_POSITIONS);
 }
 
 // Files that end with the header or before it.

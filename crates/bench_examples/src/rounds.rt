@@ -5,13 +5,12 @@
 // file of several fields each stands on a line.
 use super::limits::clause_of_ones;
 use super::line::{Example, USUAL, show_all, show_most};
-use std::io;
 
 // All of them, in this order.
-pub(crate) fn all(rt: &impl Print) -> io::Result<()> {
-    show_all(rt, &EXAMPLES)?;
-    most_of_headers(rt)?;
-    most_of_long_inputs(rt)
+pub(crate) fn all(rt: &impl Print) {
+    show_all(rt, &EXAMPLES);
+    most_of_headers(rt);
+    most_of_long_inputs(rt);
 }
 
 // v 3, n 2: [p2{1} p3{2}], [p1{1} p2{2}], [p1{2}].
@@ -97,18 +96,18 @@ const EXAMPLES: [Example; 7] = [
 
 // The most rounds: 64 * 31 + 1, which is 1985, for v 64 and n 32; 3 * 1 + 1, which is 4, for the file that
 // takes them all; 1 where every room has one value; and 0 where the file is refused, by 18 and by 14.
-fn most_of_headers(rt: &impl Print) -> io::Result<()> {
-    show_most(rt, "most-header-alone", b"\x01\0\x02\x40\x20")?;
-    show_most(rt, "most-at-the-bound", BOUND)?;
-    show_most(rt, "most-one-value", b"\x01\0\x02\x40\x01")?;
-    show_most(rt, "most-refused", b"\x01\0\x02\x41\x20")?;
-    show_most(rt, "most-empty", b"")
+fn most_of_headers(rt: &impl Print) {
+    show_most(rt, "most-header-alone", b"\x01\0\x02\x40\x20");
+    show_most(rt, "most-at-the-bound", BOUND);
+    show_most(rt, "most-one-value", b"\x01\0\x02\x40\x01");
+    show_most(rt, "most-refused", b"\x01\0\x02\x41\x20");
+    show_most(rt, "most-empty", b"");
 }
 
 // The longest file, of v 1 and n 32: 1 * 31 + 1, which is 32. With one atom more its clause is as sound, and it
 // is refused for its length alone, by 10: 0. These are 6553 atoms in place of 6552, which are 32,765 bytes, and
 // so 253 in place of 248.
-fn most_of_long_inputs(rt: &impl Print) -> io::Result<()> {
-    show_most(rt, "most-32768", &clause_of_ones::<32768>(248))?;
-    show_most(rt, "most-32773", &clause_of_ones::<32773>(253))
+fn most_of_long_inputs(rt: &impl Print) {
+    show_most(rt, "most-32768", &clause_of_ones::<32768>(248));
+    show_most(rt, "most-32773", &clause_of_ones::<32773>(253));
 }

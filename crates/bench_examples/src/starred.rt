@@ -1,14 +1,13 @@
 // 01's starred cases, with its own letters; the counts of l are those of 02 (R-2), and the place of d is
 // (R-3). In a file of several fields each stands on a line.
 use super::line::{Example, USUAL, show_all};
-use std::io;
 
 // All of them, in this order.
-pub(crate) fn all(rt: &impl Print) -> io::Result<()> {
-    show_all(rt, &EXAMPLES_OF_SOURCE_002)?;
-    show_all(rt, &NO_ATOMS)?;
-    show_all(rt, &EQUALITIES)?;
-    show_all(rt, &CLAUSES)
+pub(crate) fn all(rt: &impl Print) {
+    show_all(rt, &EXAMPLES_OF_SOURCE_002);
+    show_all(rt, &NO_ATOMS);
+    show_all(rt, &EQUALITIES);
+    show_all(rt, &CLAUSES);
 }
 
 // The two examples of source 002, with 1 for false and 2 for true.

@@ -3,21 +3,20 @@
 // field changes nothing in a round and is never dead, but it has its place among the fields. In a file of
 // several fields each stands on a line.
 use super::line::{Example, USUAL, show_all, show_most};
-use std::io;
 
 // All of them, in this order.
-pub(crate) fn all(rt: &impl Print) -> io::Result<()> {
-    show_all(rt, &BEHIND_AND_IN_FRONT)?;
-    show_all(rt, &NO_OTHER_RULES)?;
-    show_all(rt, &FROM_THE_START)?;
-    show_all(rt, &EQUALITIES)?;
-    show_all(rt, &SPLITS)?;
-    one_value_each(rt)?;
-    at_the_bound(rt)?;
-    show_all(rt, &WITH_GAPS)?;
-    most_rounds(rt)?;
-    show_all(rt, &REFUSALS)?;
-    show_all(rt, &REFUSALS_OF_THE_SECOND)
+pub(crate) fn all(rt: &impl Print) {
+    show_all(rt, &BEHIND_AND_IN_FRONT);
+    show_all(rt, &NO_OTHER_RULES);
+    show_all(rt, &FROM_THE_START);
+    show_all(rt, &EQUALITIES);
+    show_all(rt, &SPLITS);
+    one_value_each(rt);
+    at_the_bound(rt);
+    show_all(rt, &WITH_GAPS);
+    most_rounds(rt);
+    show_all(rt, &REFUSALS);
+    show_all(rt, &REFUSALS_OF_THE_SECOND);
 }
 
 // v 2, n 3: [p1{1}], and {2,3} as the starting set of position 1. The clause has no live position from the
@@ -163,7 +162,7 @@ const SPLITS: [Example; 3] = [
 // v 2, n 2: {1,2} equals the values of 1 and 2, {1} for position 1 and {2} for position 2. The product of the
 // starting sizes is 1, so that there is never a split: PLAN 1 2, 0 and 0, where case e has 1 and 0. The most
 // rounds are 1 too.
-fn one_value_each(rt: &impl Print) -> io::Result<()> {
+fn one_value_each(rt: &impl Print) {
     let file = b"\x01\0\x02\x02\x02\
       \x03\0\x06\0\0\0\x03\x01\x02\
       \x04\0\x05\x01\0\0\0\x01\
@@ -175,15 +174,15 @@ fn one_value_each(rt: &impl Print) -> io::Result<()> {
         positions: Some(2),
         ..USUAL
     };
-    example.show(rt)?;
-    show_most(rt, "start-most-one-value-each", file)
+    example.show(rt);
+    show_most(rt, "start-most-one-value-each", file);
 }
 
 // v 3, n 4: [p2{2} p3{4}], [p1{1} p2{4}], [p1{3}], and {1,3}, {2,4} and {1,4} for positions 1, 2 and 3. As in
 // `rounds-at-the-bound` each of the first three rounds cuts one room, from the last clause to the first, and
 // the fourth changes nothing: PLAN 3 4 4, and 4 rounds, the most that there may be for three sets of
 // two values. By n the most would be 10.
-fn at_the_bound(rt: &impl Print) -> io::Result<()> {
+fn at_the_bound(rt: &impl Print) {
     let file = b"\x01\0\x02\x03\x04\
       \x02\0\x0a\x02\0\0\0\x02\x03\0\0\0\x08\
       \x02\0\x0a\x01\0\0\0\x01\x02\0\0\0\x08\
@@ -198,8 +197,8 @@ fn at_the_bound(rt: &impl Print) -> io::Result<()> {
         positions: Some(3),
         ..USUAL
     };
-    example.show(rt)?;
-    show_most(rt, "start-most-at-the-bound", file)
+    example.show(rt);
+    show_most(rt, "start-most-at-the-bound", file);
 }
 
 // Files of the special kind, by their starting sets: v 2, n 5, {1,3,5} for position 1 and {2,4} for position
@@ -237,27 +236,27 @@ const WITH_GAPS: [Example; 2] = [
 // The most rounds: 63 * 31 + 0 + 1, which is 1954, where v is 64, n is 32 and one position has one starting
 // value; 1 * 2 + 1 + 1, which is 4, where v is 2, n is 3 and position 1 has two, the rule in front aside; and 0
 // where a starting set is empty, or the second of its position.
-fn most_rounds(rt: &impl Print) -> io::Result<()> {
+fn most_rounds(rt: &impl Print) {
     show_most(
         rt,
         "start-most-64-32",
         b"\x01\0\x02\x40\x20\x04\0\x05\x40\x80\0\0\0",
-    )?;
+    );
     show_most(
         rt,
         "start-most-behind",
         b"\x01\0\x02\x02\x03\x02\0\x05\x01\0\0\0\x01\x04\0\x05\x01\0\0\0\x06",
-    )?;
+    );
     show_most(
         rt,
         "start-most-26",
         b"\x01\0\x02\x02\x02\x04\0\x05\x01\0\0\0\0",
-    )?;
+    );
     show_most(
         rt,
         "start-most-27",
         b"\x01\0\x02\x02\x02\x04\0\x05\x01\0\0\0\x01\x04\0\x05\x01\0\0\0\x01",
-    )
+    );
 }
 
 // Faults of a starting set at place 5, where v is 2 and n is 2.
