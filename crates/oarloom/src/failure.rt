@@ -1,17 +1,16 @@
 // The line that says why a read or a write failed.
 use std::io::{Cursor, Error, Write};
 
-// Writes a line to standard error: what failed, a colon and the system's words for the error. An error that
-// has no number of the system's has no such words.
+// Writes a line to standard error: what failed, a colon and the system's words for the error.
 pub(crate) fn say(rt: &HostRuntime, what: &str, error: Option<Error>) {
     match error {
-        Some(error) if error.raw_os_error().is_some() => say_error(rt, what, error),
-        _ => line(rt, what, "unknown error"),
+        Some(error) => say_error(rt, what, error),
+        None => line(rt, what, "unknown error"),
     }
 }
 
-// The same for an error of the system's. No such error's text has more than 128 bytes; what is behind them
-// would not be said.
+// The same where there is an error. No error's text has more than 128 bytes; what is behind them would not
+// be said.
 fn say_error(rt: &HostRuntime, what: &str, error: Error) {
     let mut text = Cursor::new([0u8; 128]);
     let _ = write!(text, "{error}");

@@ -6,9 +6,11 @@
 #![tactic(auto)]
 
 mod failure;
+mod noted;
 
 use failure::say;
 use lines::answer::answer;
+use noted::Noted;
 use streams::{NotWhole, put, take_whole};
 
 fn main(rt: HostRuntime) {
@@ -25,9 +27,10 @@ fn main(rt: HostRuntime) {
 fn reply_to(rt: &HostRuntime, input: &[u8]) {
     let output = answer(input);
     let printed = output.printed.as_bytes();
-    match put(&mut rt.stdout(), printed, printed.len()) {
+    let mut out = Noted::new(rt.stdout());
+    match put(&mut out, printed, printed.len()) {
         Ok(()) => explain(rt, output.said.as_bytes()),
-        Err(error) => say(rt, "oarloom: standard output", Some(error)),
+        Err(_) => say(rt, "oarloom: standard output", out.error),
     }
 }
 
