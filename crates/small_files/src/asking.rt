@@ -4,12 +4,10 @@ ghost use Rattle.std.specs.Prelude.{◌≤◌};
 use super::buffer::Buffer;
 use super::tally::Tally;
 use planner::plan::plan;
-use searching::reply::Reply;
-use std::alloc::AllocError;
 use std::fmt;
 
 // What a reply is, in the order of 01's numbers.
-#[derive(Clone, Copy, PartialEq, Eq, PartialOrd, Ord)]
+#[derive(Clone, Copy, PartialEq, Eq)]
 pub enum Verdict {
     Plan,
     NoPlan,
@@ -18,12 +16,14 @@ pub enum Verdict {
     Refused(u32),
 }
 
+// A reply's number, as 01 has it. The planner's own names for these numbers are not taken, so that two of them
+// that are exchanged show.
 impl From<u32> for Verdict {
     fn from(number: u32) -> Verdict {
         match number {
-            Reply::PLAN => Verdict::Plan,
-            Reply::NONE => Verdict::NoPlan,
-            Reply::UNDECIDED => Verdict::Undecided,
+            0 => Verdict::Plan,
+            1 => Verdict::NoPlan,
+            2 => Verdict::Undecided,
             number => Verdict::Refused(number),
         }
     }
@@ -86,18 +86,17 @@ impl Seen {
 impl Tally {
     // Calls the planner and counts the reply. The program has its replies from nowhere else, so that none is
     // left out.
-    pub(crate) fn ask(&mut self, file: &[u8], given: Given) -> Result<Seen, AllocError> {
+    pub(crate) fn ask(&mut self, file: &[u8], given: Given) -> Seen {
         let mut left = Buffer::BLANK;
         let reply = plan(file, &mut left.0[..given.length], given.allowance);
-        let verdict = Verdict::from(reply.number);
-        self.count(verdict, &reply)?;
-        Ok(Seen {
-            verdict,
+        self.count(&reply);
+        Seen {
+            verdict: Verdict::from(reply.number),
             place: reply.place,
             splits: reply.splits,
             dead_ends: reply.dead_ends,
             rounds: reply.rounds,
             left,
-        })
+        }
     }
 }

@@ -26,7 +26,8 @@ impl Buffer {
     // The next assignment in dictionary order, as a counter has it: the last position is the fastest.
     pub(crate) fn next(self, starts: &[Values]) -> Option<Buffer> {
         let mut next = self;
-        for (value, start) in next.0.iter_mut().zip(starts).rev() {
+        let positions = starts.len().min(next.0.len());
+        for (value, start) in next.0[..positions].iter_mut().zip(starts).rev() {
             if let Some(above) = start.above(*value) {
                 *value = above;
                 return Some(next);

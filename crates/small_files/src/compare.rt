@@ -5,7 +5,6 @@ use super::meaning::MANY;
 use super::rule_file::RuleFile;
 use super::tally::Tally;
 use planner::rounds::rounds_most;
-use std::alloc::AllocError;
 
 // The largest allowance that is not refused.
 pub const MOST: u64 = 1_000_000;
@@ -93,49 +92,54 @@ impl Seen {
 }
 
 // Compares the reply to a file that is not sound: a refusal. The most rounds of such a file are 0.
-fn unsound(tally: &mut Tally, file: &[u8]) -> Result<Seen, AllocError> {
-    let seen = tally.ask(file, Given::usual(MOST))?;
+fn unsound(tally: &mut Tally, file: &[u8]) -> Seen {
+    let seen = tally.ask(file, Given::usual(MOST));
     let right = seen.is_fault(file.len()) && rounds_most(file) == 0;
-    tally.expect(right, "not refused:", file)?;
-    Ok(seen)
+    tally.expect(right, "not refused:", file);
+    seen
 }
 
 // Compares the reply to a sound file with what the enumeration finds. There are never as many splits
 // as assignments.
-fn enumerated(tally: &mut Tally, file: &RuleFile<'_>) -> Result<Seen, AllocError> {
-    let seen = tally.ask(file.bytes, Given::usual(MOST))?;
+fn enumerated(tally: &mut Tally, file: &RuleFile<'_>) -> Seen {
+    let seen = tally.ask(file.bytes, Given::usual(MOST));
     let right = seen.is_found(file) && seen.splits < file.assignments() && seen.has_rounds(file);
-    tally.expect(right, "not as enumerated:", file.bytes)?;
-    Ok(seen)
+    tally.expect(right, "not as enumerated:", file.bytes);
+    seen
 }
 
 // Compares the reply to a sound file with too many assignments: a plan has to meet all rules.
-fn too_many(tally: &mut Tally, file: &RuleFile<'_>) -> Result<Seen, AllocError> {
-    let seen = tally.ask(file.bytes, Given::usual(FEW))?;
+fn too_many(tally: &mut Tally, file: &RuleFile<'_>) -> Seen {
+    let seen = tally.ask(file.bytes, Given::usual(FEW));
     let right = seen.is_possible(file) && seen.has_rounds(file);
-    tally.expect(right, "not met:", file.bytes)?;
-    Ok(seen)
+    tally.expect(right, "not met:", file.bytes);
+    seen
 }
 
 // Compares the reply to a sound file, and one of the special kind with what demand 3 claims of it.
-fn judge_sound(tally: &mut Tally, file: &RuleFile<'_>) -> Result<Seen, AllocError> {
+fn judge_sound(tally: &mut Tally, file: &RuleFile<'_>) -> Seen {
     let seen = if file.assignments() <= MANY as u64 {
-        enumerated(tally, file)?
+        enumerated(tally, file)
     } else {
-        too_many(tally, file)?
+        too_many(tally, file)
     };
     if file.is_special() {
         tally.special.add(1);
         let right = file.is_claimed(&seen);
-        tally.expect(right, "not as claimed of the special kind:", file.bytes)?;
+        tally.expect(right, "not as claimed of the special kind:", file.bytes);
     }
-    Ok(seen)
+    seen
 }
 
 // Compares the reply to any bytes, sound or not, and answers it.
-pub(crate) fn judge(tally: &mut Tally, bytes: &[u8]) -> Result<Seen, AllocError> {
-    match RuleFile::read(tally.alloc, bytes)? {
-        Some(file) => judge_sound(tally, &file),
+pub(crate) fn judge(tally: &mut Tally, bytes: &[u8]) -> Seen {
+    judge_read(tally, bytes, &RuleFile::read(bytes))
+}
+
+// Compares the reply to bytes that were read, and answers it.
+pub(crate) fn judge_read(tally: &mut Tally, bytes: &[u8], read: &Option<RuleFile<'_>>) -> Seen {
+    match read {
+        Some(file) => judge_sound(tally, file),
         None => unsound(tally, bytes),
     }
 }

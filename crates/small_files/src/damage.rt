@@ -7,14 +7,15 @@ use super::chance::Chance;
 use super::compare::judge;
 use super::reading::Fields;
 use super::tally::Tally;
-use std::alloc::AllocError;
+use super::writing::Bytes;
+use arrayvec::CapacityError;
 
 // Tries all damages of a file.
 pub(crate) fn damaged(
     tally: &mut Tally,
     chance: &mut Chance,
     file: &[u8],
-) -> Result<(), AllocError> {
+) -> Result<(), CapacityError> {
     for place in 0..=file.len() {
         damaged_at(tally, chance, file, place)?;
     }
@@ -28,12 +29,12 @@ fn damaged_at(
     chance: &mut Chance,
     file: &[u8],
     place: usize,
-) -> Result<(), AllocError>
+) -> Result<(), CapacityError>
     requires { place ≤ length file.now }
 {
     let (front, behind) = file.split_at(place);
     if let Some((old, rest)) = behind.split_first() {
-        try_damaged(tally, front)?;
+        try_damaged(tally, front);
         with_changes(tally, chance, front, *old, rest)?;
     }
     let added = chance.draw(7);
@@ -41,10 +42,9 @@ fn damaged_at(
 }
 
 // Tries a damaged file.
-fn try_damaged(tally: &mut Tally, file: &[u8]) -> Result<(), AllocError> {
+fn try_damaged(tally: &mut Tally, file: &[u8]) {
     tally.damaged.add(1);
-    judge(tally, file)?;
-    Ok(())
+    judge(tally, file);
 }
 
 // Tries what three parts make together.
@@ -53,11 +53,12 @@ fn try_joined(
     front: &[u8],
     middle: &[u8],
     behind: &[u8],
-) -> Result<(), AllocError> {
-    let mut file = front.to_vec(tally.alloc)?;
-    file.extend_from_slice(middle)?;
-    file.extend_from_slice(behind)?;
-    try_damaged(tally, &file)
+) -> Result<(), CapacityError> {
+    let mut file = Bytes::try_from(front)?;
+    file.try_extend_from_slice(middle)?;
+    file.try_extend_from_slice(behind)?;
+    try_damaged(tally, &file);
+    Ok(())
 }
 
 // Changes a byte between two parts of a file: once down by 1 to 5, once to any other byte, to 4 and to 5, the
@@ -68,7 +69,7 @@ fn with_changes(
     front: &[u8],
     old: u8,
     behind: &[u8],
-) -> Result<(), AllocError> {
+) -> Result<(), CapacityError> {
     let lower = old.wrapping_sub(5).wrapping_add(chance.draw(5));
     let other = old.wrapping_add(1).wrapping_add(chance.draw(255));
     for changed in [lower, other, 4, 5, 0] {
@@ -78,7 +79,7 @@ fn with_changes(
 }
 
 // Tries a file with each of its fields once more at the end.
-fn with_copies(tally: &mut Tally, file: &[u8]) -> Result<(), AllocError> {
+fn with_copies(tally: &mut Tally, file: &[u8]) -> Result<(), CapacityError> {
     for field in Fields::of(file) {
         if let Ok(field) = field {
             with_copy(tally, file, field.bytes)?;
@@ -90,21 +91,22 @@ fn with_copies(tally: &mut Tally, file: &[u8]) -> Result<(), AllocError> {
 // Tries a file with a field of it once more at the end: as it is, which doubles a starting set; with 0 as its
 // last byte, which may leave a set empty; with 255 there, which may be above n or v; with the byte before it
 // there, which may name a position twice; and with 0 as the first byte of its content too.
-fn with_copy(tally: &mut Tally, file: &[u8], field: &[u8]) -> Result<(), AllocError> {
+fn with_copy(tally: &mut Tally, file: &[u8], field: &[u8]) -> Result<(), CapacityError> {
     let [.., before, _] = field else {
         return Ok(());
     };
-    let mut longer = file.to_vec(tally.alloc)?;
-    longer.extend_from_slice(field)?;
-    try_damaged(tally, &longer)?;
+    let mut longer = Bytes::try_from(file)?;
+    longer.try_extend_from_slice(field)?;
+    try_damaged(tally, &longer);
     for last in [0, 255, *before] {
         if let Some(byte) = longer.last_mut() {
             *byte = last;
         }
-        try_damaged(tally, &longer)?;
+        try_damaged(tally, &longer);
     }
     if let Some(first) = longer.get_mut(file.len().saturating_add(3)) {
         *first = 0;
     }
-    try_damaged(tally, &longer)
+    try_damaged(tally, &longer);
+    Ok(())
 }

@@ -3,8 +3,8 @@ use super::chance::Chance;
 use super::reading::Fields;
 use super::trying::Family;
 use super::values::Values;
-use super::writing::{Kind, Written, header};
-use std::alloc::{AllocError, Global};
+use super::writing::{Bytes, Kind, Written, header};
+use arrayvec::CapacityError;
 use std::ops::RangeInclusive;
 
 // What files are drawn.
@@ -151,14 +151,9 @@ impl Family for Drawn {
         }
     }
 
-    fn file(
-        &self,
-        alloc: Global,
-        chance: &mut Chance,
-        _number: u32,
-    ) -> Result<Vec<u8>, AllocError> {
+    fn file(&self, chance: &mut Chance, _number: u32) -> Result<Bytes, CapacityError> {
         let shape = self.shape(chance);
-        let mut file = header(alloc, shape.v, shape.n)?;
+        let mut file = header(shape.v, shape.n)?;
         for _ in 0..chance.draw(shape.fields.saturating_add(1)) {
             shape.write_field(chance, &mut file)?;
         }
@@ -207,7 +202,7 @@ impl Shape {
     }
 
     // Writes a starting set, an at-most rule, an equality or a clause.
-    fn write_field(self, chance: &mut Chance, file: &mut Vec<u8>) -> Result<(), AllocError> {
+    fn write_field(self, chance: &mut Chance, file: &mut Bytes) -> Result<(), CapacityError> {
         let drawn = chance.draw(8);
         let starts = self.equalities.saturating_add(self.starts);
         if drawn < self.equalities {
@@ -227,7 +222,7 @@ impl Shape {
     }
 
     // Writes a starting set, and nothing where its position has one already.
-    fn write_start(self, chance: &mut Chance, file: &mut Vec<u8>) -> Result<(), AllocError> {
+    fn write_start(self, chance: &mut Chance, file: &mut Bytes) -> Result<(), CapacityError> {
         let position = self.position(chance);
         let sure = chance.draw(self.n).saturating_add(1);
         let values = drawn_values(chance, self.n, self.fitted, Some(sure));
@@ -237,18 +232,18 @@ impl Shape {
         if again {
             return Ok(());
         }
-        let mut field = Written::new(*file.allocator(), Kind::Start)?;
+        let mut field = Written::new(Kind::Start)?;
         field.add_atom(position, values)?;
         field.write(file)
     }
 
     // Writes an at-most rule: a count from 0 to 3, a set, and the positions in turn from one that is drawn
     // on, each in three of four draws.
-    fn write_at_most(self, chance: &mut Chance, file: &mut Vec<u8>) -> Result<(), AllocError> {
+    fn write_at_most(self, chance: &mut Chance, file: &mut Bytes) -> Result<(), CapacityError> {
         let values = self.values(chance);
         let count = chance.draw(4);
         let first = chance.draw(self.v);
-        let mut field = Written::new(*file.allocator(), Kind::AtMost(count, values))?;
+        let mut field = Written::new(Kind::AtMost(count, values))?;
         for position in (first..self.v).chain(0..first) {
             if chance.holds(3) {
                 field.add_position(position.saturating_add(1))?;
@@ -258,10 +253,10 @@ impl Shape {
     }
 
     // Writes an equality of up to v positions.
-    fn write_equality(self, chance: &mut Chance, file: &mut Vec<u8>) -> Result<(), AllocError> {
+    fn write_equality(self, chance: &mut Chance, file: &mut Bytes) -> Result<(), CapacityError> {
         let values = self.values(chance);
         let positions = chance.draw(self.v.saturating_add(1));
-        let mut field = Written::new(*file.allocator(), Kind::Equality(values))?;
+        let mut field = Written::new(Kind::Equality(values))?;
         for _ in 0..positions {
             field.add_position(self.position(chance))?;
         }
@@ -270,13 +265,13 @@ impl Shape {
 
     // Writes a clause: of no atoms in one of 100 draws, and otherwise of one of the least number and the next
     // two.
-    fn write_clause(self, chance: &mut Chance, file: &mut Vec<u8>) -> Result<(), AllocError> {
+    fn write_clause(self, chance: &mut Chance, file: &mut Bytes) -> Result<(), CapacityError> {
         let atoms = if chance.draw(100) == 0 {
             0
         } else {
             self.atoms.saturating_add(chance.draw(3))
         };
-        let mut field = Written::new(*file.allocator(), Kind::Clause)?;
+        let mut field = Written::new(Kind::Clause)?;
         for _ in 0..atoms {
             let position = self.position(chance);
             field.add_atom(position, self.values(chance))?;

@@ -32,12 +32,11 @@ mod trying;
 mod values;
 mod writing;
 
-use std::io;
 use tally::Tally;
 
-fn main(rt: HostRuntime) -> io::Result<()> {
-    let mut tally = Tally::new(rt.alloc());
-    trying::all(&mut tally)?;
-    limits::all(&mut tally)?;
-    print!(rt; "{tally}")
+fn main(rt: HostRuntime) {
+    let mut tally = Tally::new(rt.stdout());
+    trying::all(&mut tally);
+    limits::all(&mut tally);
+    tally.print();
 }

@@ -54,6 +54,13 @@ pub enum Rule<'a> {
     },
 }
 
+// A clause of no atoms.
+impl Default for Rule<'_> {
+    fn default() -> Self {
+        Rule::Clause(Atoms(&[]))
+    }
+}
+
 // A field of a file: where it stands, and its bytes.
 #[derive(Clone, Copy)]
 pub struct Field<'a> {

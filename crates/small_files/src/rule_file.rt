@@ -2,7 +2,14 @@
 // R-12.
 use super::reading::{Atom, Field, Fields, Rule};
 use super::values::Values;
-use std::alloc::{AllocError, Global};
+use arrayvec::ArrayVec;
+
+// How many rules a file has at most: ten where it is made, and few more where it is damaged. One of more would
+// count as not sound, and the planner's reply to it as a difference.
+const MOST_RULES: usize = 32;
+
+// What the fields of a file say.
+type Rules<'a> = ArrayVec<Rule<'a>, MOST_RULES>;
 
 // The numbers of positions and of values that a header names.
 #[derive(Clone, Copy)]
@@ -72,29 +79,27 @@ fn all_differ(positions: &[u8]) -> bool {
 pub struct RuleFile<'a> {
     pub bytes: &'a [u8],
     pub v: u8,
-    pub rules: Vec<Rule<'a>>,
+    pub rules: Rules<'a>,
     // The starting sets of positions 1 to v (02, R-6).
-    pub starts: Vec<Values>,
+    pub starts: ArrayVec<Values, 64>,
 }
 
 impl<'a> RuleFile<'a> {
     // Reads a file, where it is sound.
-    pub(crate) fn read(alloc: Global, bytes: &'a [u8]) -> Result<Option<RuleFile<'a>>, AllocError> {
-        let Some(header) = Header::of(bytes) else {
-            return Ok(None);
-        };
-        let Some(rules) = sound_rules(alloc, bytes, header)? else {
-            return Ok(None);
-        };
-        let starts = (1..=header.v)
-            .map(|position| starting_set(&rules, position).unwrap_or(header.values()))
-            .collect(alloc)?;
-        Ok(Some(RuleFile {
+    pub(crate) fn read(bytes: &'a [u8]) -> Option<RuleFile<'a>> {
+        let header = Header::of(bytes)?;
+        let rules = sound_rules(bytes, header)?;
+        let mut starts = ArrayVec::new();
+        for position in 1..=header.v {
+            let set = starting_set(&rules, position).unwrap_or(header.values());
+            starts.try_push(set).ok()?;
+        }
+        Some(RuleFile {
             bytes,
             v: header.v,
             rules,
             starts,
-        }))
+        })
     }
 
     // Whether a clause, an equality or an at-most rule starts at a place. A starting set is none of these.
@@ -105,22 +110,16 @@ impl<'a> RuleFile<'a> {
 }
 
 // What the fields of a file say, where all of them are sound.
-fn sound_rules<'a>(
-    alloc: Global,
-    bytes: &'a [u8],
-    header: Header,
-) -> Result<Option<Vec<Rule<'a>>>, AllocError> {
-    let mut rules = Vec::new(alloc);
+fn sound_rules(bytes: &[u8], header: Header) -> Option<Rules<'_>> {
+    let mut rules = ArrayVec::new();
     for field in Fields::of(bytes) {
-        let Some(rule) = field.ok().and_then(|field| field.rule()) else {
-            return Ok(None);
-        };
+        let rule = field.ok()?.rule()?;
         if !header.has_rule(rule) || starts_again(&rules, rule) {
-            return Ok(None);
+            return None;
         }
-        rules.push(rule)?;
+        rules.try_push(rule).ok()?;
     }
-    Ok(Some(rules))
+    Some(rules)
 }
 
 // The starting set that one of some rules gives a position.

@@ -4,8 +4,8 @@ ghost use Rattle.std.specs.Iterator.{at_most};
 use super::chance::Chance;
 use super::trying::Family;
 use super::values::Values;
-use super::writing::{Kind, Written, header};
-use std::alloc::{AllocError, Global};
+use super::writing::{Bytes, Kind, Written, header};
+use arrayvec::CapacityError;
 
 // What a field repeats, given by a number: 0 is no item, then come those of one item, then those of two, and
 // so on. An item is one of v positions and one of so many sets. They are the digits of the number, from the
@@ -86,8 +86,8 @@ impl Field {
     }
 
     // Writes the field at the end of a file.
-    fn write(self, file: &mut Vec<u8>) -> Result<(), AllocError> {
-        let mut field = Written::new(*file.allocator(), self.kind)?;
+    fn write(self, file: &mut Bytes) -> Result<(), CapacityError> {
+        let mut field = Written::new(self.kind)?;
         for (position, values) in self.items {
             match self.kind {
                 Kind::Clause | Kind::Start => field.add_atom(position, values)?,
@@ -148,7 +148,7 @@ impl Systematic {
     ];
 
     // A file with no fields yet, of the family's numbers of positions and of values.
-    fn header(self, alloc: Global) -> Result<Vec<u8>, AllocError> {
+    fn header(self) -> Result<Bytes, CapacityError> {
         let (v, n) = match self {
             Systematic::TwoClauses | Systematic::ClauseAndEquality => (2, 2),
             Systematic::TwoClausesOfThreeValues | Systematic::TwoEqualities => (2, 3),
@@ -158,7 +158,7 @@ impl Systematic {
             Systematic::StartAndAtMost | Systematic::EqualityAndAtMost => (3, 3),
             Systematic::OneEquality => (4, 4),
         };
-        header(alloc, v, n)
+        header(v, n)
     }
 
     // The first field of the file with a number.
@@ -227,13 +227,8 @@ impl Family for Systematic {
         }
     }
 
-    fn file(
-        &self,
-        alloc: Global,
-        _chance: &mut Chance,
-        number: u32,
-    ) -> Result<Vec<u8>, AllocError> {
-        let mut file = self.header(alloc)?;
+    fn file(&self, _chance: &mut Chance, number: u32) -> Result<Bytes, CapacityError> {
+        let mut file = self.header()?;
         self.first_of(number).write(&mut file)?;
         if let Some(second) = self.second_of(number) {
             second.write(&mut file)?;

@@ -1,9 +1,8 @@
 // What is counted while the files are tried, and what is printed of it.
 use super::asking::Verdict;
 use searching::reply::Reply;
-use std::alloc::{AllocError, Global};
-use std::collections::BTreeMap;
 use std::fmt;
+use std::io::{Print, Stdout};
 
 // A number of things, or the sum of some numbers. It stops at the largest number, which none comes near.
 #[derive(Clone, Copy)]
@@ -42,35 +41,41 @@ impl Checksum {
 }
 
 // What did not hold of a file, and the bytes of the file.
-#[derive(Drop)]
-struct Difference {
-    what: &'static str,
-    file: Vec<u8>,
+#[derive(Clone, Copy)]
+struct Difference<'a> {
+    what: &'a str,
+    file: &'a [u8],
 }
 
-impl fmt::Display for Difference {
+impl fmt::Display for Difference<'_> {
     fn fmt<W: fmt::Write>(&self, f: &mut fmt::Formatter<W>) -> fmt::Result {
         let what = self.what;
         write!(f, "{what}")?;
-        for byte in &self.file {
+        for byte in self.file {
             write!(f, " {byte}")?;
         }
-        writeln!(f)
+        Ok(())
     }
 }
 
-// The counts.
+// Whether a reply with a number is right for some call that is made here: a plan, NONE, UNDECIDED, and refusals
+// of what is given and of files.
+fn is_tried(number: u32) -> bool {
+    matches!(number, 0..=2 | 10..=20 | 26 | 27 | 36)
+}
+
+// The counts, and where they are printed.
 #[derive(Drop)]
 pub struct Tally {
-    pub alloc: Global,
+    output: Stdout,
     // Files that were made, each of them sound.
     pub files: Count,
     // Files with a byte changed, cut off or added.
     pub damaged: Count,
     // Replies to sound files of the special kind, with what was claimed of them compared.
     pub special: Count,
-    // How many replies of each kind there were.
-    replies: BTreeMap<Verdict, Count>,
+    // How many replies with each number up to 63 there were. 01 and 02 have none above 36.
+    replies: [Count; 64],
     // The sums of the splits, the dead ends, the places and the rounds of all replies.
     splits: Count,
     dead_ends: Count,
@@ -79,20 +84,19 @@ pub struct Tally {
     checksum: Checksum,
     // What was compared: every reply, and that every file that was made is sound.
     comparisons: Count,
-    // Comparisons that showed a difference, and the first of them.
+    // Comparisons that showed a difference.
     differences: Count,
-    first_difference: Option<Difference>,
 }
 
 impl Tally {
     // Before the first file.
-    pub(crate) fn new(alloc: Global) -> Tally {
+    pub(crate) fn new(output: Stdout) -> Tally {
         Tally {
-            alloc,
+            output,
             files: Count(0),
             damaged: Count(0),
             special: Count(0),
-            replies: BTreeMap::new(alloc),
+            replies: [Count(0); 64],
             splits: Count(0),
             dead_ends: Count(0),
             places: Count(0),
@@ -100,13 +104,14 @@ impl Tally {
             checksum: Checksum(0),
             comparisons: Count(0),
             differences: Count(0),
-            first_difference: None,
         }
     }
 
-    // Counts a reply: its kind, the sums, and all five numbers in the checksum.
-    pub(crate) fn count(&mut self, verdict: Verdict, reply: &Reply) -> Result<(), AllocError> {
-        self.replies.entry(verdict)?.or_insert(Count(0)).add(1);
+    // Counts a reply: its number, the sums, and all five numbers in the checksum.
+    pub(crate) fn count(&mut self, reply: &Reply) {
+        if let Some(count) = self.replies.get_mut(reply.number as usize) {
+            count.add(1);
+        }
         let place = reply.place as u64;
         self.splits.add(reply.splits);
         self.dead_ends.add(reply.dead_ends);
@@ -116,48 +121,43 @@ impl Tally {
         for number in [number, place, reply.splits, reply.dead_ends, reply.rounds] {
             self.checksum.append(number);
         }
-        Ok(())
     }
 
-    // Counts a comparison, and a difference where it did not hold. The first file with a difference is kept,
-    // and what was compared.
-    pub(crate) fn expect(
-        &mut self,
-        holds: bool,
-        what: &'static str,
-        file: &[u8],
-    ) -> Result<(), AllocError> {
+    // Counts a comparison, and a difference where it did not hold. What was compared and the bytes of the first
+    // file with a difference are printed at once.
+    pub(crate) fn expect(&mut self, holds: bool, what: &str, file: &[u8]) {
         self.comparisons.add(1);
         if holds {
-            return Ok(());
+            return;
+        }
+        if self.differences.0 == 0 {
+            let difference = Difference { what, file };
+            let _ = println!(self.output; "{difference}");
         }
         self.differences.add(1);
-        if self.first_difference.is_none() {
-            let file = file.to_vec(self.alloc)?;
-            self.first_difference = Some(Difference { what, file });
-        }
-        Ok(())
     }
-}
 
-// A line for each count, and before them the first difference, where there is one.
-impl fmt::Display for Tally {
-    fn fmt<W: fmt::Write>(&self, f: &mut fmt::Formatter<W>) -> fmt::Result {
-        if let Some(difference) = &self.first_difference {
-            write!(f, "{difference}")?;
+    // Prints a line for each count. A number that no reply should have has one where a reply had it.
+    pub(crate) fn print(&self) {
+        self.print_count("files", self.files);
+        self.print_count("damaged files", self.damaged);
+        self.print_count("of the special kind", self.special);
+        for (count, number) in self.replies.iter().zip(0..64) {
+            if is_tried(number) || 0 < count.0 {
+                self.print_count(Verdict::from(number), *count);
+            }
         }
-        writeln!(f, "files {}", self.files)?;
-        writeln!(f, "damaged files {}", self.damaged)?;
-        writeln!(f, "of the special kind {}", self.special)?;
-        for (verdict, count) in &self.replies {
-            writeln!(f, "{verdict} {count}")?;
-        }
-        writeln!(f, "splits {}", self.splits)?;
-        writeln!(f, "dead ends {}", self.dead_ends)?;
-        writeln!(f, "places {}", self.places)?;
-        writeln!(f, "rounds {}", self.rounds)?;
-        writeln!(f, "checksum {}", self.checksum.0)?;
-        writeln!(f, "comparisons {}", self.comparisons)?;
-        writeln!(f, "differences {}", self.differences)
+        self.print_count("splits", self.splits);
+        self.print_count("dead ends", self.dead_ends);
+        self.print_count("places", self.places);
+        self.print_count("rounds", self.rounds);
+        self.print_count("checksum", Count(u64::from(self.checksum.0)));
+        self.print_count("comparisons", self.comparisons);
+        self.print_count("differences", self.differences);
+    }
+
+    // Prints a count behind what it counts. A line that cannot be written is passed over.
+    fn print_count<N: fmt::Display + Drop>(&self, name: N, count: Count) {
+        let _ = println!(self.output; "{name} {count}");
     }
 }

@@ -1,7 +1,7 @@
 // Sets of values from 1 to 32.
 
 // A set of values. The lowest bit stands for value 1.
-#[derive(Clone, Copy, PartialEq, Eq)]
+#[derive(Clone, Copy, Default, PartialEq, Eq)]
 pub struct Values(pub u32);
 
 impl Values {
