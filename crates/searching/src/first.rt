@@ -17,5 +17,6 @@ pub fn search_from(input: &[u8], allowed: u64, rooms: Rooms, answer: &mut [u8]) 
 {
     let mut first = rooms;
     let shrunk = shrink(input, &mut first);
-    search(input, allowed, shrunk.verdict, first, 0, 0, answer).with_rounds(shrunk.rounds)
+    let reply = search(input, allowed, shrunk.verdict, first, 0, 0, answer);
+    reply.with_rounds(shrunk.rounds)
 }

@@ -34,7 +34,8 @@ pub fn search(
     if let Err(dead) = verdict {
         return Reply::none(dead.place, splits, dead_ends + 1);
     }
-    let Some(i) = choose(input, &rooms) else {
+    let chosen = choose(input, &rooms);
+    let Some(i) = chosen else {
         // Nothing is left to cut and nothing to split: the box is settled.
         write_smallest(answer, &rooms);
         return Reply::ended(Reply::PLAN, splits, dead_ends);
