@@ -20,7 +20,7 @@
  *   - Memory that a function may write overlaps no other memory of the same call: the buffer, the
  *     five cells and the input all lie apart. Nothing else writes to any of them until it returns.
  *   - A uint64_t cell is aligned as a uint64_t is, and may be read and written.
- *   - oarloom_plan has 2 MiB of stack. Most files need little; the deepest searches need 1.6 MiB,
+ *   - oarloom_plan has 2 MiB of stack. Most files need little; the deepest searches need 1.4 MiB,
  *     and the rest is to spare. A thread may have less: give it 2 MiB at its start.
  */
 #ifndef OARLOOM_H
