@@ -40,13 +40,12 @@ fn only_live(rooms: &Rooms, left: EachAtom<'_>, met: Met) -> Option<Room>
     let mut kept = met.kept;
     for atom in left {
         let shared = rooms.at(atom.position).common(atom.set);
-        if shared.is_empty() {
-            continue;
+        if !shared.is_empty() {
+            if atom.position != met.position {
+                return None;
+            }
+            kept = kept.union(shared);
         }
-        if atom.position != met.position {
-            return None;
-        }
-        kept = kept.union(shared);
     }
     Some(kept)
 }

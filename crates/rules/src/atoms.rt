@@ -1,29 +1,29 @@
 // The atoms of a content, gone through one after another. The contracts cite specs/Each.antt.
-ghost use Rattle.std.specs.Prelude.{◌≡◌, ◌≤◌, length, drop};
+ghost use Rattle.std.specs.Prelude.{◌≡◌, ◌+◌, ◌-◌, ◌≤◌, length, drop};
 ghost use Rattle.std.specs.Iterator.{YieldsFirst, item_count};
 ghost use Rattle.rules.specs.Each.{atoms_in};
 
 use super::field::{Atom, atom_at};
 use std::marker::Model;
 
-// The atoms that are still to come: those from an index on. Contracts see them as the list of these.
+// The atoms that are still to come, by the place where the next one ends. Contracts see them as the list of these.
 #[derive(Drop)]
 pub struct EachAtom<'a> {
     bytes: &'a [u8],
-    at: usize,
+    end: usize,
 }
 
 impl<'a> Model for EachAtom<'a> {
-    ghost use Rattle.std.specs.Prelude.{List, ◌≤◌, length, drop};
+    ghost use Rattle.std.specs.Prelude.{List, ◌+◌, ◌-◌, ◌≤◌, length, drop};
     ghost use Rattle.rules.specs.declared.field.Atom.{Atom};
 
     ghost Value = { List Atom };
 
     ghost use Rattle.rules.specs.Each.{atoms_in};
 
-    ghost view = { λ atoms. atoms_in (drop atoms.at atoms.bytes.now) };
+    ghost view = { λ atoms. atoms_in (drop (atoms.end - 5) atoms.bytes.now) };
 
-    ghost invariant = { λ atoms. atoms.at ≤ length atoms.bytes.now };
+    ghost invariant = { λ atoms. (5 ≤ atoms.end) × (atoms.end ≤ length atoms.bytes.now + 5) };
 }
 
 // All atoms of a content; bytes behind the last whole one are left out.
@@ -32,7 +32,7 @@ pub fn atoms(content: &[u8]) -> EachAtom<'_>
 {
     EachAtom {
         bytes: content,
-        at: 0,
+        end: 5,
     }
 }
 
@@ -44,12 +44,12 @@ impl<'a> Iterator for EachAtom<'a> {
     ghost remaining = { item_count (λ atoms. atoms) };
 
     fn next(&mut self) -> Option<Atom> {
-        let end = self.at + 5;
+        let end = self.end;
         if self.bytes.len() < end {
             return None;
         }
-        let atom = atom_at(self.bytes, self.at);
-        self.at = end;
+        let atom = atom_at(self.bytes, end - 5);
+        self.end = end + 5;
         Some(atom)
     }
 }

@@ -1,6 +1,6 @@
 // What the bytes of one field say: its tag, its length, its atoms, its set and its positions.
 // The contracts cite specs/Promise.antt, which goes by specs/Reading.antt.
-ghost use Rattle.std.specs.Prelude.{◌+◌, ◌≤◌, length};
+ghost use Rattle.std.specs.Prelude.{◌+◌, ◌<◌, ◌≤◌, length};
 ghost use Rattle.rules.specs.Promise.{TagOf, SetAt, AtomAt, HeadAt};
 
 use sets::Room;
@@ -68,10 +68,10 @@ pub fn atom_at(bytes: &[u8], at: usize) -> Atom
     Atom { position, set }
 }
 
-// The head of the field that starts at `at`.
+// The head of the field that starts at `at`. Its length is a number of two bytes.
 pub fn head_at(bytes: &[u8], at: usize) -> Head
     requires { at + 3 ≤ length bytes.now }
-    ensures { HeadAt bytes.now at result }
+    ensures { HeadAt bytes.now at result × (result.length < 65536) }
 {
     let tag = bytes[at];
     let two = [bytes[at + 1], bytes[at + 2]];

@@ -53,10 +53,10 @@ impl<'a> Iterator for EachField<'a> {
             return None;
         }
         let head = head_at(self.input, self.at);
-        if self.input.len() - from < head.length {
+        let end = from + head.length;
+        if self.input.len() < end {
             return None;
         }
-        let end = from + head.length;
         let field = FieldBytes {
             place: self.at,
             kind: Tag::from(head.tag),

@@ -15,4 +15,4 @@ pub returns : goal.returns
 returns c =
     let a = c.args in
     let length = c.from-length.ensures ∙ c.from_be_bytes.ensures ∙ two a.bytes.now a.at in
-    (λ i. record { tag = get_or a.bytes.now a.at 0; length = length i }) ∙ sym (head-drop a.bytes.now a.at)
+    ((λ i. record { tag = get_or a.bytes.now a.at 0; length = length i }) ∙ sym (head-drop a.bytes.now a.at), omega (arith, c.from-length.ensures, c.from_be_bytes.type_inv))

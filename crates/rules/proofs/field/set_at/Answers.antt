@@ -1,5 +1,5 @@
 -- `rules::field::set_at` meets its contract: four bytes, the high one first. Assumes nothing.
-use Rattle.std.proofs.Common.{◌≡◌, ◌∙◌, ℕ, ◌+◌, List, [], ◌∷◌, arith, get_or}
+use Rattle.std.proofs.Common.{◌≡◌, ℕ, ◌+◌, List, [], ◌∷◌, arith, get_or}
 use Rattle.std.specs.Int.{from_be_bytes, w32}
 use Rattle.rules.specs.Reading.{set_at}
 use Rattle.rules.proofs.field.set_at.Goals as goal
@@ -10,4 +10,4 @@ unfolding set_at
 four bytes at = omega arith
 
 pub returns : goal.returns
-returns c = c.from.ensures ∙ c.from_be_bytes.ensures ∙ four c.args.bytes.now c.args.at
+returns c = omega (arith, four c.args.bytes.now c.args.at)

@@ -41,10 +41,10 @@ head_at-requires c =
     omega (arith, ends (goal.at.head_at-requires c).In_ok-seen refl, ap length (rest_part c.loop-at.at s), length-drop c.loop-at.at s)
 
 pub overflow_add-at : goal.overflow_add-at
-overflow_add-at c = omega (arith, ends (goal.at.overflow_add-at c).In_ok-seen (headed c.loop-at.at c.args.input.now c.head_at.ensures))
+overflow_add-at c = omega (arith, ends (goal.at.overflow_add-at c).In_ok-seen (headed c.loop-at.at c.args.input.now c.head_at.ensures.0))
 
 pub overflow_add-at-in-loop-at : goal.overflow_add-at-in-loop-at
-overflow_add-at-in-loop-at c = omega (arith, ends (goal.at.overflow_add-at-in-loop-at c).In_ok-seen (headed c.loop-at.at c.args.input.now c.head_at.ensures))
+overflow_add-at-in-loop-at c = omega (arith, ends (goal.at.overflow_add-at-in-loop-at c).In_ok-seen (headed c.loop-at.at c.args.input.now c.head_at.ensures.0))
 
 pub loop-at-preserved : goal.loop-at-preserved
 loop-at-preserved c =
@@ -53,7 +53,7 @@ loop-at-preserved c =
     -- the marks are those of the positions seen with the field
     let more = IfOk-at_ok _ kept c.fault_after.ensures.marked ∙ ap (λ (bytes : List ℕ). seen_with (rule_at bytes) c.loop-at.seen) (rest_part c.loop-at.at s) in
     field_passes c.loop-at.invariant c.loop-at-test.true (found _ _ _ c.loop-at.at s c.fault_after.ensures.told) (none_given _ _ kept)
-    (headed c.loop-at.at s c.head_at.ensures) more _ (omega arith)
+    (headed c.loop-at.at s c.head_at.ensures.0) more _ (omega arith)
 
 pub returns : goal.returns
 returns c = sym (fields_end c.loop-at.invariant c.loop-at-test.false)

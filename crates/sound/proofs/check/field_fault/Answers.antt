@@ -22,11 +22,11 @@ returns-then-bytes-lt3 c = simp (lt-ltb (length c.args.bytes.now) 3 c.if-bytes-l
 pub returns-in_err-tag_fault : goal.returns-in_err-tag_fault
 returns-in_err-tag_fault c =
     told_first _ _ _ c.from_residual.ensures.1 c.in_err-tag_fault.ensures
-    ∙ sym (headed _ _ c.args.bytes.now (omega arith) c.head_at-head.ensures c.from-kind.ensures)
+    ∙ sym (headed _ _ c.args.bytes.now (omega arith) c.head_at-head.ensures.0 c.from-kind.ensures)
 
 pub returns : goal.returns
 unfolding content_of
 returns c =
     let a = c.args in
     c.body_fault.ensures ∙ ap (body_fault a.limits.positions a.limits.values c.from-kind.result c.head_at-head.result.length) (rest_part 3 a.bytes.now)
-    ∙ none_told _ c.in_ok-tag_fault.ensures ∙ sym (headed _ _ a.bytes.now (omega arith) c.head_at-head.ensures c.from-kind.ensures)
+    ∙ none_told _ c.in_ok-tag_fault.ensures ∙ sym (headed _ _ a.bytes.now (omega arith) c.head_at-head.ensures.0 c.from-kind.ensures)

@@ -22,9 +22,9 @@ returns-then-input-lt3-clause-told c = simp (sym c.if-is_empty.ensures, lt-ltb (
 
 pub returns-in_default-clause-told : goal.returns-in_default-clause-told
 unfolding number_of number_told
-returns-in_default-clause-told c = sym (tagged c.args.input.now (omega arith) c.head_at-head.ensures ∙ simp (tag_other c.head_at-head.result.tag c.from.ensures c.in_default.not-Header))
+returns-in_default-clause-told c = sym (tagged c.args.input.now (omega arith) c.head_at-head.ensures.0 ∙ simp (tag_other c.head_at-head.result.tag c.from.ensures c.in_default.not-Header))
 
 pub returns-clause-told : goal.returns-clause-told
 returns-clause-told c =
     c.header_body_fault.ensures.told
-    ∙ sym (tagged c.args.input.now (omega arith) c.head_at-head.ensures ∙ simp (tag_is-header c.head_at-head.result.tag c.from.ensures c.in-Header.is))
+    ∙ sym (tagged c.args.input.now (omega arith) c.head_at-head.ensures.0 ∙ simp (tag_is-header c.head_at-head.result.tag c.from.ensures c.in-Header.is))
