@@ -40,6 +40,8 @@ fn only_live(rooms: &Rooms, left: EachAtom<'_>, met: Met) -> Option<Room>
     let mut kept = met.kept;
     for atom in left {
         let shared = rooms.at(atom.position).common(atom.set);
+        // The second test stands inside the first, and the union there behind it: other ways to say it run more
+        // instructions.
         if !shared.is_empty() {
             if atom.position != met.position {
                 return None;

@@ -6,7 +6,8 @@ ghost use Rattle.rules.specs.Each.{atoms_in};
 use super::field::{Atom, atom_at};
 use std::marker::Model;
 
-// The atoms that are still to come, by the place where the next one ends. Contracts see them as the list of these.
+// The atoms that are still to come, by the place where the next one ends, or would end: so the test whether it is
+// there needs no sum. Contracts see them as the list of these.
 #[derive(Drop)]
 pub struct EachAtom<'a> {
     bytes: &'a [u8],

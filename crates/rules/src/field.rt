@@ -68,7 +68,8 @@ pub fn atom_at(bytes: &[u8], at: usize) -> Atom
     Atom { position, set }
 }
 
-// The head of the field that starts at `at`. Its length is a number of two bytes.
+// The head of the field that starts at `at`. Its length is a number of two bytes, so that the sum of a place in a file
+// and a length fits.
 pub fn head_at(bytes: &[u8], at: usize) -> Head
     requires { at + 3 ≤ length bytes.now }
     ensures { HeadAt bytes.now at result × (result.length < 65536) }
